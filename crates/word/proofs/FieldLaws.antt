@@ -1,0 +1,106 @@
+-- What reading and storing a field give, bit by bit. Assumes nothing.
+use mathlib.Core.Path.{_≡_, refl, sym, ap, subst, _∙_}
+use mathlib.Core.Logic.{_⊎_, inl, inr, ⊎-elim}
+use Prim.Native.Nat.{ℕ, suc, _+_, _-_, _*_, _/_, _%_, _^_, _<_, _≤_}
+use native.Mathlib.Nat.{add-comm, add-assoc, add-mul, mod-lt}
+use native.Mathlib.Omega.{arith}
+use lib.Arith.{digits-lt}
+use lib.Bits.{bitAnd}
+use lib.Pow.{pow-pos, pow-add, shr-lt, split, high, low, shl-exact}
+use Rattle.std.proofs.shelf.Bits.{and-mask}
+use Rattle.word.specs.declared.fields.Field.{Field}
+use Rattle.word.specs.Bits.{bit, bits-at}
+use Rattle.word.specs.Parts.{Inside, Stored, filled, read, stored, field}
+use Rattle.word.proofs.Bitwise.{low-end, of-low, of-high}
+
+-- w as what stands above the field, the field and what stands below it; the same with a value in the field
+module _ (s n w v : ℕ) where
+  pub joined : ℕ → ℕ
+  joined x = (w / 2 ^ s / 2 ^ n * 2 ^ n + x) * 2 ^ s + w % 2 ^ s
+
+  whole : joined (bits-at s n w) ≡ w
+  unfolding joined
+  whole = ap (λ x. x * 2 ^ s + w % 2 ^ s) (split (w / 2 ^ s) n) ∙ split w s
+
+  apart : (x : ℕ) → joined x ≡ w / 2 ^ s / 2 ^ n * 2 ^ n * 2 ^ s + x * 2 ^ s + w % 2 ^ s
+  unfolding joined
+  apart x = ap (λ y. y + w % 2 ^ s) (add-mul (w / 2 ^ s / 2 ^ n * 2 ^ n) x (2 ^ s))
+
+  pub taken-out : bits-at s n w * 2 ^ s ≤ w
+  taken-out = omega (arith, whole, apart (bits-at s n w))
+
+  pub put-in : w - bits-at s n w * 2 ^ s + v % 2 ^ n * 2 ^ s ≡ joined (v % 2 ^ n)
+  put-in = omega (arith, whole, apart (bits-at s n w), apart (v % 2 ^ n))
+
+  pub fits : s + n ≤ 36 → w < 2 ^ 36 → joined (v % 2 ^ n) < 2 ^ 36
+  unfolding joined
+  fits h word =
+      let e : (36 - s) + s ≡ 36 = omega arith in
+      let f : (36 - s - n) + n ≡ 36 - s = omega arith in
+      let upper = shr-lt {n = w} (36 - s) s (subst (λ k. w < 2 ^ k) (sym e) word) in
+      let top = shr-lt {n = w / 2 ^ s} (36 - s - n) n (subst (λ k. w / 2 ^ s < 2 ^ k) (sym f) upper) in
+      let inner = subst (λ m. w / 2 ^ s / 2 ^ n * 2 ^ n + v % 2 ^ n < m) (sym (pow-add 2 (36 - s - n) n) ∙ ap (λ k. 2 ^ k) f) (digits-lt top (mod-lt v (pow-pos n))) in
+      subst (λ m. (w / 2 ^ s / 2 ^ n * 2 ^ n + v % 2 ^ n) * 2 ^ s + w % 2 ^ s < m) (sym (pow-add 2 (36 - s) s) ∙ ap (λ k. 2 ^ k) e) (digits-lt inner (mod-lt w (pow-pos s)))
+
+  -- bits outside the field do not depend on what is in it
+  outside : (x i k : ℕ) → x < 2 ^ n → (i + k ≤ s) ⊎ (s + n ≤ i) → bits-at i k (joined x) ≡ bits-at i k (joined (bits-at s n w))
+  unfolding joined
+  outside x i k h o =
+      let top = w / 2 ^ s / 2 ^ n in
+      let low-of : (y : ℕ) → i + k ≤ s → bits-at i k (joined y) ≡ bits-at i k (w % 2 ^ s) = λ y below. of-low i k s (top * 2 ^ n + y) (w % 2 ^ s) (mod-lt w (pow-pos s)) below in
+      let high-of : (y : ℕ) → y < 2 ^ n → s + n ≤ i → bits-at i k (joined y) ≡ bits-at (i - s - n) k top =
+          λ y lt over.
+              let e : i ≡ s + (n + (i - s - n)) = omega arith in
+              ap (λ j. bits-at j k (joined y)) e ∙ of-high (n + (i - s - n)) k s (top * 2 ^ n + y) (w % 2 ^ s) (mod-lt w (pow-pos s)) ∙ of-high (i - s - n) k n top y lt in
+      ⊎-elim
+      (λ below. low-of x below ∙ sym (low-of (bits-at s n w) below))
+      (λ over. high-of x h over ∙ sym (high-of (bits-at s n w) (mod-lt (w / 2 ^ s) (pow-pos n)) over))
+      o
+
+  pub kept : (i k : ℕ) → (i + k ≤ s) ⊎ (s + n ≤ i) → bits-at i k (joined (v % 2 ^ n)) ≡ bits-at i k w
+  kept i k o = outside (v % 2 ^ n) i k (mod-lt v (pow-pos n)) o ∙ ap (bits-at i k) whole
+
+  pub moved : (i : ℕ) → i < n → bit (s + i) (joined (v % 2 ^ n)) ≡ bit i v
+  unfolding joined
+  moved i h =
+      of-high i 1 s (w / 2 ^ s / 2 ^ n * 2 ^ n + v % 2 ^ n) (w % 2 ^ s) (mod-lt w (pow-pos s))
+      ∙ of-low i 1 n (w / 2 ^ s / 2 ^ n) (v % 2 ^ n) (mod-lt v (pow-pos n)) (omega arith) ∙ low-end i 1 n v (omega arith)
+
+  pub found : bits-at s n (joined (v % 2 ^ n)) ≡ v % 2 ^ n
+  unfolding joined
+  found =
+      ap (λ y. y % 2 ^ n) (high (w / 2 ^ s / 2 ^ n * 2 ^ n + v % 2 ^ n) s (mod-lt w (pow-pos s)))
+      ∙ low (w / 2 ^ s / 2 ^ n) n (mod-lt v (pow-pos n))
+
+pub stored-bits : (f : Field) (w v : ℕ) → Stored f w v (stored f w v)
+stored-bits f w v =
+    let s = f .start in
+    let n = f .width in
+    let e = put-in s n w v in
+    subst (Stored f w v) (sym e) (record {
+      inside = moved s n w v;
+      outside = λ i o. kept s n w v i 1 o;
+      reads-back = ap (filled f) (found s n w v);
+      others-stay = λ g o. ap (filled g) (kept s n w v (g .start) (g .width) o);
+    })
+
+pub stored-fits : (f : Field) (w v : ℕ) → Inside f → w < 2 ^ 36 → stored f w v < 2 ^ 36
+stored-fits f w v h word = subst (λ r. r < 2 ^ 36) (sym (put-in (f .start) (f .width) w v)) (fits (f .start) (f .width) w v (h .within) word)
+
+-- a number of the field's width, moved to the field, loses nothing among 64 bits
+pub moved-whole : (f : Field) (x : ℕ) → Inside f → x < 2 ^ f .width → x * 2 ^ f .start % 2 ^ 64 ≡ x * 2 ^ f .start
+moved-whole f x h lt = let within = h .within in shl-exact {a = x} (f .width) (f .start) 64 lt (omega arith)
+
+-- as the code computes it
+module _ (f : Field) (w v number ones : ℕ) (inside : Inside f) (is-number : number ≡ bits-at (f .start) (f .width) w) (is-ones : ones ≡ 2 ^ f .width - 1) where
+  pub taken-by-code : number * 2 ^ f .start % 2 ^ 64 ≡ bits-at (f .start) (f .width) w * 2 ^ f .start
+  taken-by-code =
+      ap (λ x. x * 2 ^ f .start % 2 ^ 64) is-number ∙ moved-whole f (bits-at (f .start) (f .width) w) inside (mod-lt (w / 2 ^ f .start) (pow-pos (f .width)))
+
+  pub put-by-code : bitAnd v ones * 2 ^ f .start % 2 ^ 64 ≡ v % 2 ^ f .width * 2 ^ f .start
+  put-by-code =
+      ap (λ x. bitAnd v x * 2 ^ f .start % 2 ^ 64) is-ones ∙ ap (λ x. x * 2 ^ f .start % 2 ^ 64) (and-mask v (f .width))
+      ∙ moved-whole f (v % 2 ^ f .width) inside (mod-lt v (pow-pos (f .width)))
+
+  pub stored-by-code : w - number * 2 ^ f .start % 2 ^ 64 + bitAnd v ones * 2 ^ f .start % 2 ^ 64 ≡ stored f w v
+  stored-by-code = λ i. w - taken-by-code i + put-by-code i

@@ -1,0 +1,11 @@
+use mathlib.Core.Path.{sym, subst}
+use Rattle.word.specs.Shifts.{Right-circular}
+use Rattle.word.proofs.ShiftLaws.{right-circular-bits}
+use Rattle.word.proofs.words.Word.right_circular.Needs as need
+
+pub returns : need.returns
+returns c =
+    let w = c .args .self .bits in
+    let n = c .args .count .places in
+    let e = c .turned-left .ensures in
+    record { number = e; bits = subst (Right-circular n w) (sym e) (right-circular-bits n w (c .args .self .fits)) }

@@ -1,0 +1,113 @@
+// The table of the fields that a selector can name, and how one field is read and stored.
+ghost use Prim.Native.Nat.{_^_, _<_, _≤_, _%_, _+_, _-_, _*_};
+ghost use lib.ListN.{length};
+ghost use mathlib.Core.Bool.{true, _&&_};
+ghost use mathlib.Core.Path.{_≡_};
+ghost use Rattle.word.specs.Bits.{bits-at};
+ghost use Rattle.word.specs.Parts.{agrees, field, filled, stored, takes-sign, Inside};
+ghost use Rattle.word.specs.Sums.{negative};
+
+use crate::words::Word;
+
+/// What stands to the left of a field that was read.
+#[derive(Clone, Copy)]
+pub enum Fill {
+    Zeros,
+    Sign,
+}
+
+/// A field of a word: its rightmost bit, how many bits it has, and what fills a whole word up.
+#[derive(Clone, Copy)]
+pub struct Field {
+    pub start: u32,
+    pub width: u32,
+    pub fill: Fill,
+}
+
+static FIELDS: [Field; 14] = [
+    Field { start: 0, width: 36, fill: Fill::Zeros },
+    Field { start: 0, width: 18, fill: Fill::Zeros },
+    Field { start: 18, width: 18, fill: Fill::Zeros },
+    Field { start: 0, width: 18, fill: Fill::Sign },
+    Field { start: 18, width: 18, fill: Fill::Sign },
+    Field { start: 0, width: 12, fill: Fill::Sign },
+    Field { start: 12, width: 12, fill: Fill::Sign },
+    Field { start: 24, width: 12, fill: Fill::Sign },
+    Field { start: 0, width: 6, fill: Fill::Zeros },
+    Field { start: 6, width: 6, fill: Fill::Zeros },
+    Field { start: 12, width: 6, fill: Fill::Zeros },
+    Field { start: 18, width: 6, fill: Fill::Zeros },
+    Field { start: 24, width: 6, fill: Fill::Zeros },
+    Field { start: 30, width: 6, fill: Fill::Zeros },
+];
+
+fn table() -> &'static [Field; 14]
+    ensures rule { λ r. ⌜ agrees 0 (now r) ≡ true ⌝ }
+    ensures len { λ r. ⌜ length (now r) ≡ 14 ⌝ }
+{
+    &FIELDS
+}
+
+/// The field that the selector j names.
+pub fn field_at(j: u32) -> Field
+    requires { ⌜ j < 14 ⌝ }
+    ensures { λ r. ⌜ r ≡ field j ⌝ }
+{
+    table()[j as usize]
+}
+
+impl Field {
+    // As many ones as the field has bits.
+    fn ones(self) -> u64
+        requires { ⌜ Inside self ⌝ }
+        ensures value { λ r. ⌜ r ≡ 2 ^ self .width - 1 ⌝ }
+        ensures bound { λ r. ⌜ r < 2 ^ 36 ⌝ }
+    {
+        (1 << self.width) - 1
+    }
+
+    /// The number that the field's bits of a word write.
+    pub fn number(self, word: Word) -> u64
+        requires { ⌜ Inside self ⌝ }
+        ensures { λ r. ⌜ r ≡ bits-at (self .start) (self .width) (word .bits) ⌝ }
+    {
+        (word.bits >> self.start) & self.ones()
+    }
+
+    // Whether a number of the field's width is filled with ones.
+    fn is_negative(self, number: u64) -> bool
+        requires { ⌜ Inside self ⌝ }
+        ensures { λ r. ⌜ r ≡ (takes-sign (self .fill) && negative (self .width) number) ⌝ }
+    {
+        match self.fill {
+            Fill::Zeros => false,
+            Fill::Sign => number >= 1 << (self.width - 1),
+        }
+    }
+
+    /// A number of the field's width as a whole word.
+    pub fn filled(self, number: u64) -> Word
+        requires { ⌜ Inside self ⌝ ∗ ⌜ number < 2 ^ self .width ⌝ }
+        ensures { λ r. ⌜ r .bits ≡ filled self number ⌝ }
+    {
+        let ones = self.ones();
+        if !self.is_negative(number) {
+            return Word { bits: number };
+        }
+        Word {
+            bits: (1 << 36) - 1 - ones + number,
+        }
+    }
+
+    /// A word whose field has the lowest bits of a value.
+    pub fn stored(self, word: Word, value: Word) -> Word
+        requires { ⌜ Inside self ⌝ }
+        ensures { λ r. ⌜ r .bits ≡ stored self (word .bits) (value .bits) ⌝ }
+    {
+        let taken_out = self.number(word) << self.start;
+        let put_in = (value.bits & self.ones()) << self.start;
+        Word {
+            bits: word.bits - taken_out + put_in,
+        }
+    }
+}
