@@ -35,7 +35,7 @@ behind i n x h =
     ap (λ y. y / 2 ^ i % 2) d ∙ ap (λ y. y % 2) (shl-shr (x * 2 ^ (n - i - 1) * 2) i) ∙ mul-mod-left (x * 2 ^ (n - i - 1)) 2
 
 -- a power of two that is at least 2 is even
-even : (p : ℕ) → 0 < p → 2 ^ p ≡ 2 ^ (p - 1) * 2
+pub even : (p : ℕ) → 0 < p → 2 ^ p ≡ 2 ^ (p - 1) * 2
 even p h = let e : p ≡ suc (p - 1) = omega arith in ap (λ k. 2 ^ k) e ∙ pow-suc 2 (p - 1)
 
 -- the complement, shifted right

@@ -1,17 +1,21 @@
 -- What reading and storing a field give, bit by bit. Assumes nothing.
 use mathlib.Core.Path.{_≡_, refl, sym, ap, subst, _∙_}
+use mathlib.Core.Bool.{Bool, true, false, cond, _&&_}
 use mathlib.Core.Logic.{_⊎_, inl, inr, ⊎-elim}
 use Prim.Native.Nat.{ℕ, suc, _+_, _-_, _*_, _/_, _%_, _^_, _<_, _≤_}
-use native.Mathlib.Nat.{add-comm, add-assoc, add-mul, mod-lt}
+use native.Mathlib.Nat.{add-comm, add-assoc, add-mul, mod-lt, div-eq-of-lt, div-eq-of-lt-le}
 use native.Mathlib.Omega.{arith}
 use lib.Arith.{digits-lt}
 use lib.Bits.{bitAnd}
-use lib.Pow.{pow-pos, pow-add, shr-lt, split, high, low, shl-exact}
+use lib.Pow.{pow-pos, pow-add, shr-lt, split, high, low, shl-exact, high-ones}
 use Rattle.std.proofs.shelf.Bits.{and-mask}
+use Rattle.std.proofs.shelf.Tests.{cases-lt, le-leb, lt-leb}
+use Rattle.std.proofs.shelf.Ways.{tells}
 use Rattle.word.specs.declared.fields.Field.{Field}
 use Rattle.word.specs.Bits.{bit, bits-at}
-use Rattle.word.specs.Parts.{Inside, Stored, filled, read, stored, field}
-use Rattle.word.proofs.Bitwise.{low-end, of-low, of-high}
+use Rattle.word.specs.Parts.{Inside, Stored, Taken, takes-sign, filled, read, stored, field}
+use Rattle.word.specs.Sums.{negative}
+use Rattle.word.proofs.Bitwise.{above-all, even, high-end, low-end, of-low, of-high, ones-bit}
 
 -- w as what stands above the field, the field and what stands below it; the same with a value in the field
 module _ (s n w v : ℕ) where
@@ -86,6 +90,60 @@ stored-bits f w v =
 
 pub stored-fits : (f : Field) (w v : ℕ) → Inside f → w < 2 ^ 36 → stored f w v < 2 ^ 36
 stored-fits f w v h word = subst (λ r. r < 2 ^ 36) (sym (put-in (f .start) (f .width) w v)) (fits (f .start) (f .width) w v (h .within) word)
+
+-- every field that a selector names lies in a word
+pub known-inside : (j : ℕ) → j < 14 → Inside (field j)
+known-inside j h = record { some = grind (arith, tells); within = grind (arith, tells) }
+
+-- a number of the field's width as a whole word: ones above it or nothing
+module _ (f : Field) (v : ℕ) (inside : Inside f) (few : v < 2 ^ f .width) where
+  ones-above : filled f v ≡ cond (takes-sign (f .fill) && negative (f .width) v) ((2 ^ (36 - f .width) - 1) * 2 ^ f .width + v) v
+  ones-above =
+      let within = inside .within in
+      let e : (36 - f .width) + f .width ≡ 36 = omega arith in
+      let t = subst (λ k. 2 ^ k - 2 ^ f .width ≡ (2 ^ (36 - f .width) - 1) * 2 ^ f .width) e (high-ones (36 - f .width) (f .width)) in
+      ap (λ x. cond (takes-sign (f .fill) && negative (f .width) v) (x + v) v) t
+
+  filled-low : (b : Bool) (i : ℕ) → i < f .width → bit i (cond b ((2 ^ (36 - f .width) - 1) * 2 ^ f .width + v) v) ≡ bit i v
+  filled-low true i h = of-low i 1 (f .width) (2 ^ (36 - f .width) - 1) v few (omega arith)
+  filled-low false i h = refl
+
+  filled-high : (b : Bool) (i : ℕ) → f .width ≤ i → i < 36 → bit i (cond b ((2 ^ (36 - f .width) - 1) * 2 ^ f .width + v) v) ≡ cond b 1 0
+  filled-high true i le lt =
+      let e : i ≡ f .width + (i - f .width) = omega arith in
+      ap (λ j. bit j ((2 ^ (36 - f .width) - 1) * 2 ^ f .width + v)) e ∙ of-high (i - f .width) 1 (f .width) (2 ^ (36 - f .width) - 1) v few
+      ∙ ones-bit (36 - f .width) (i - f .width) (omega arith)
+  filled-high false i le lt = above-all i (f .width) v few le
+
+  -- the sign of a field is its leftmost bit
+  sign-bit : cond (negative (f .width) v) 1 0 ≡ bit (f .width - 1) v
+  sign-bit =
+      let p = 2 ^ (f .width - 1) in
+      let whole = even (f .width) (inside .some) in
+      ⊎-elim
+      (λ (lt : v < p). ap (λ b. cond {A = ℕ} b 1 0) (lt-leb p v lt) ∙ sym (ap (λ q. q % 2) (div-eq-of-lt lt)))
+      (λ (le : p ≤ v).
+          let one : v / p ≡ 1 = div-eq-of-lt-le p {m = v} (omega arith) (omega arith) in
+          ap (λ b. cond {A = ℕ} b 1 0) (le-leb p v le) ∙ sym (ap (λ q. q % 2) one))
+      (cases-lt v p)
+
+-- what fills is the sign where it is asked for, else 0
+fill-bit : (t n : Bool) (x : ℕ) → cond {A = ℕ} n 1 0 ≡ x → cond {A = ℕ} (t && n) 1 0 ≡ cond t x 0
+fill-bit true n x e = e
+fill-bit false n x e = refl
+
+pub taken-bits : (f : Field) (w : ℕ) → Inside f → Taken f w (read f w)
+taken-bits f w h =
+    let s = f .start in
+    let n = f .width in
+    let v = bits-at s n w in
+    let few = mod-lt (w / 2 ^ s) (pow-pos n) in
+    let t = takes-sign (f .fill) in
+    let moved-down : (i : ℕ) → i < n → bit i v ≡ bit (s + i) w = λ i lt. low-end i 1 n (w / 2 ^ s) (omega arith) ∙ high-end i 1 s w in
+    record {
+      inside = λ i lt. ap (bit i) (ones-above f v h few) ∙ filled-low f v h few (t && negative n v) i lt ∙ moved-down i lt;
+      above = λ i le lt. ap (bit i) (ones-above f v h few) ∙ filled-high f v h few (t && negative n v) i le lt ∙ fill-bit t (negative n v) (bit (s + (n - 1)) w) (sign-bit f v h few ∙ moved-down (n - 1) (omega (arith, h .some)));
+    }
 
 -- a number of the field's width, moved to the field, loses nothing among 64 bits
 pub moved-whole : (f : Field) (x : ℕ) → Inside f → x < 2 ^ f .width → x * 2 ^ f .start % 2 ^ 64 ≡ x * 2 ^ f .start

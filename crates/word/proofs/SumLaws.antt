@@ -68,7 +68,7 @@ module _ (n : ℕ) (wide : 0 < n) where
       stays-a-word = λ a. omega arith;
       cancels = λ a ha. grind (arith, tells);
       twice = λ a ha. omega arith;
-      turns-sign = λ a ha s. grind (arith, tells);
+      turns-the-sign = λ a ha. grind (arith, tells);
       magnitude-unsigned = λ a ha. grind (arith, tells);
     }
 

@@ -1,4 +1,6 @@
+pub mod Adding
 pub mod Bits
+pub mod Figures
 pub mod Parts
 pub mod Shifts
 pub mod SumLaws

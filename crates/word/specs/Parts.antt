@@ -61,6 +61,11 @@ stored f w v = w - bits-at (f .start) (f .width) w * 2 ^ f .start + v % 2 ^ f .w
 abbrev pub Apart : ℕ → ℕ → Field → Type 0
 Apart s n f = (s + n ≤ f .start) ⊎ (f .start + f .width ≤ s)
 
+-- what reading gives: the field's bits, and above them what fills the word
+pub record Taken (f : Field) (w r : ℕ) : Type 0 where
+  pub inside : (i : ℕ) → i < f .width → bit i r ≡ bit (f .start + i) w
+  pub above : (i : ℕ) → f .width ≤ i → i < 36 → bit i r ≡ cond (takes-sign (f .fill)) (bit (f .start + (f .width - 1)) w) 0
+
 -- what a store leaves, bit by bit and field by field
 pub record Stored (f : Field) (w v r : ℕ) : Type 0 where
   pub inside : (i : ℕ) → i < f .width → bit (f .start + i) r ≡ bit i v

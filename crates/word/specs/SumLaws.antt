@@ -1,7 +1,7 @@
 -- What holds of the sums, signs, values and order of numbers of n bits. `Sum-laws n` is one statement at one width.
 --   m stands for the modulus 2^n - 1, which is -0.
 use mathlib.Core.Path.{_≡_}
-use mathlib.Core.Bool.{Bool, true, false}
+use mathlib.Core.Bool.{Bool, true, false, not}
 use mathlib.Core.Logic.{_⊎_}
 use Prim.Native.Nat.{ℕ, _+_, _-_, _^_, _<_, _%_}
 use lib.IntN.{ℤ, _+ℤ_}
@@ -20,7 +20,7 @@ pub record Complements (n m : ℕ) : Type 0 where
   pub stays-a-word : (a : ℕ) → complement m a < 2 ^ n
   pub cancels : (a : ℕ) → a < 2 ^ n → sum m a (complement m a) ≡ 0
   pub twice : (a : ℕ) → a < 2 ^ n → complement m (complement m a) ≡ a
-  pub turns-sign : (a : ℕ) → a < 2 ^ n → negative n a ≡ true → negative n (complement m a) ≡ false
+  pub turns-the-sign : (a : ℕ) → a < 2 ^ n → negative n (complement m a) ≡ not (negative n a)
   pub magnitude-unsigned : (a : ℕ) → a < 2 ^ n → negative n (magnitude n a) ≡ false
 
 pub record Values (n m : ℕ) : Type 0 where

@@ -7,6 +7,7 @@ ghost use Rattle.word.specs.Bits.{bits-at};
 ghost use Rattle.word.specs.Parts.{agrees, field, filled, stored, takes-sign, Inside};
 ghost use Rattle.word.specs.Sums.{negative};
 
+use crate::words::ONES;
 use crate::words::Word;
 
 /// What stands to the left of a field that was read.
@@ -95,7 +96,7 @@ impl Field {
             return Word { bits: number };
         }
         Word {
-            bits: (1 << 36) - 1 - ones + number,
+            bits: ONES - ones + number,
         }
     }
 

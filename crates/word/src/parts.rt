@@ -2,14 +2,14 @@
 ghost use Prim.Native.Nat.{_<_, _≤_};
 ghost use mathlib.Core.Path.{_≡_};
 ghost use Rattle.std.specs.Options.{Cases};
-ghost use Rattle.word.specs.Parts.{field, read, stored, Stored};
+ghost use Rattle.word.specs.Parts.{field, read, stored, Stored, Taken};
 use crate::fields::field_at;
 use crate::words::Word;
 
 /// A selector of a part of a word: 0 the whole word, 1 to 4 halves, 5 to 7 thirds, 0o10 to 0o15 sixths.
 #[derive(Clone, Copy, PartialEq, Eq, Debug)]
 pub struct Part {
-    j: u32,
+    pub(crate) j: u32,
     ghost known: { j < 14 },
 }
 
@@ -29,7 +29,8 @@ impl Part {
 impl Word {
     /// The part as a whole word, filled up with zeros or with its own sign.
     pub fn part(self, part: Part) -> Word
-        ensures { λ r. ⌜ r .bits ≡ read (field (part .j)) (self .bits) ⌝ }
+        ensures number { λ r. ⌜ r .bits ≡ read (field (part .j)) (self .bits) ⌝ }
+        ensures bits { λ r. ⌜ Taken (field (part .j)) (self .bits) (r .bits) ⌝ }
     {
         let field = field_at(part.j);
         field.filled(field.number(self))

@@ -3,6 +3,7 @@ ghost use Prim.Native.Nat.{_^_, _<_, _≤_, _%_, _+_, _-_, _*_};
 ghost use mathlib.Core.Path.{_≡_};
 ghost use Rattle.std.specs.Options.{Cases};
 ghost use Rattle.word.specs.Shifts.{turned, right-circular, left-circular, right-logical, left-logical, right-algebraic, Right-circular, Left-circular, Right-logical, Left-logical, Right-algebraic, turns, Turned};
+use crate::words::ONES;
 use crate::words::Word;
 use crate::words::WordDebug;
 use crate::words::WordPartialEq;
@@ -10,7 +11,7 @@ use crate::words::WordPartialEq;
 /// How many places a shift moves the bits, 0 to 72.
 #[derive(Clone, Copy, PartialEq, Eq, Debug)]
 pub struct Count {
-    places: u32,
+    pub(crate) places: u32,
     ghost few: { places ≤ 72 },
 }
 
@@ -33,8 +34,6 @@ pub struct Counted {
     pub word: Word,
     pub count: u32,
 }
-
-const ONES: u64 = (1 << 36) - 1;
 
 impl Word {
     /// The bits move right, and those that leave come in at the left.

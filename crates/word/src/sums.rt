@@ -2,7 +2,10 @@
 ghost use Prim.Native.Nat.{_^_, _<_, _≤_, _%_};
 ghost use mathlib.Core.Path.{_≡_};
 ghost use Rattle.std.specs.Options.{Cases};
+ghost use Rattle.word.specs.Adding.{added};
 ghost use Rattle.word.specs.Sums.{modulus, sum, complement, negative, magnitude, carries, overflows, value, greater};
+use crate::words::Half;
+use crate::words::ONES;
 use crate::words::Word;
 
 /// A sum, with the two designators that it sets.
@@ -13,11 +16,10 @@ pub struct Sum<N> {
     pub overflow: bool,
 }
 
-fn add(width: u32, a: u64, b: u64) -> Sum<u64>
+/// The sum of two numbers of a width, in ones' complement: the one adder behind every sum.
+pub(crate) fn add_at_width(width: u32, a: u64, b: u64) -> Sum<u64>
     requires { ⌜ 0 < width ⌝ ∗ ⌜ width < 64 ⌝ ∗ ⌜ a < 2 ^ width ⌝ ∗ ⌜ b < 2 ^ width ⌝ }
-    ensures total { λ r. ⌜ r .total ≡ sum (modulus width) a b ⌝ }
-    ensures carry { λ r. ⌜ r .carry ≡ carries (modulus width) a b ⌝ }
-    ensures overflow { λ r. ⌜ r .overflow ≡ overflows width a b ⌝ }
+    ensures { λ r. ⌜ r ≡ added width a b ⌝ }
 {
     let modulus = (1u64 << width) - 1;
     let sign = 1u64 << (width - 1);
@@ -25,7 +27,11 @@ fn add(width: u32, a: u64, b: u64) -> Sum<u64>
     let carry = plain >= modulus;
     let total = if carry { plain - modulus } else { plain };
     let overflow = (a >= sign) == (b >= sign) && (a >= sign) != (total >= sign);
-    Sum { total, carry, overflow }
+    Sum {
+        total,
+        carry,
+        overflow,
+    }
 }
 
 impl Word {
@@ -35,22 +41,25 @@ impl Word {
         ensures carry { λ r. ⌜ r .carry ≡ carries (modulus 36) (self .bits) (other .bits) ⌝ }
         ensures overflow { λ r. ⌜ r .overflow ≡ overflows 36 (self .bits) (other .bits) ⌝ }
     {
-        let sum = add(36, self.bits, other.bits);
+        let sum = add_at_width(36, self.bits, other.bits);
         Sum { total: Word { bits: sum.total }, carry: sum.carry, overflow: sum.overflow }
     }
 
+    /// Each bit the other way.
     pub fn complement(self) -> Word
         ensures { λ r. ⌜ r .bits ≡ complement (modulus 36) (self .bits) ⌝ }
     {
-        Word { bits: (1 << 36) - 1 - self.bits }
+        Word { bits: ONES - self.bits }
     }
 
+    /// Whether the sign, the leftmost bit, stands.
     pub fn is_negative(self) -> bool
         ensures { λ r. ⌜ r ≡ negative 36 (self .bits) ⌝ }
     {
         self.bits >= 1 << 35
     }
 
+    /// The complement where the sign stands, else the word.
     pub fn magnitude(self) -> Word
         ensures { λ r. ⌜ r .bits ≡ magnitude 36 (self .bits) ⌝ }
     {
@@ -61,6 +70,7 @@ impl Word {
         }
     }
 
+    /// The signed value; both zeros are 0.
     pub fn value(self) -> i64
         ensures { λ r. ⌜ r ≡ value 36 (self .bits) ⌝ }
     {
@@ -71,6 +81,7 @@ impl Word {
         }
     }
 
+    /// Whether this word stands above another: one without sign above one with it, else the larger number; +0 above -0.
     pub fn is_greater(self, other: Word) -> bool
         ensures { λ r. ⌜ r ≡ greater 36 (self .bits) (other .bits) ⌝ }
     {
@@ -78,6 +89,18 @@ impl Word {
             self.bits > other.bits
         } else {
             other.is_negative()
+        }
+    }
+}
+
+impl Half {
+    /// The sum of two halves, as addresses are added.
+    pub fn plus(self, other: Half) -> Half
+        ensures { λ r. ⌜ r .bits ≡ sum (modulus 18) (self .bits) (other .bits) ⌝ }
+    {
+        let sum = add_at_width(18, self.bits as u64, other.bits as u64);
+        Half {
+            bits: sum.total as u32,
         }
     }
 }

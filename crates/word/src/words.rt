@@ -3,6 +3,9 @@ ghost use Prim.Native.Nat.{_^_, _<_, _≤_, _%_};
 ghost use mathlib.Core.Path.{_≡_};
 ghost use Rattle.std.specs.Options.{Cases};
 
+/// The number of 36 ones, which is -0.
+pub(crate) const ONES: u64 = (1 << 36) - 1;
+
 /// A word of 36 bits.
 #[derive(Clone, Copy, PartialEq, Eq, Debug)]
 pub struct Word {
@@ -53,6 +56,15 @@ impl Half {
             Some(Half { bits: number })
         } else {
             None
+        }
+    }
+
+    /// The half of the lowest 18 bits of a number.
+    pub fn of_lowest(number: u64) -> Half
+        ensures { λ r. ⌜ r .bits ≡ number % 2 ^ 18 ⌝ }
+    {
+        Half {
+            bits: (number % (1 << 18)) as u32,
         }
     }
 
