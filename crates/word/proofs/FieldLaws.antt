@@ -53,9 +53,9 @@ module _ (s n w v : ℕ) where
       let top = w / 2 ^ s / 2 ^ n in
       let low-of : (y : ℕ) → i + k ≤ s → bits-at i k (joined y) ≡ bits-at i k (w % 2 ^ s) = λ y below. of-low i k s (top * 2 ^ n + y) (w % 2 ^ s) (mod-lt w (pow-pos s)) below in
       let high-of : (y : ℕ) → y < 2 ^ n → s + n ≤ i → bits-at i k (joined y) ≡ bits-at (i - s - n) k top =
-          λ y lt over.
-              let e : i ≡ s + (n + (i - s - n)) = omega arith in
-              ap (λ j. bits-at j k (joined y)) e ∙ of-high (n + (i - s - n)) k s (top * 2 ^ n + y) (w % 2 ^ s) (mod-lt w (pow-pos s)) ∙ of-high (i - s - n) k n top y lt in
+      λ y lt over.
+      let e : i ≡ s + (n + (i - s - n)) = omega arith in
+      ap (λ j. bits-at j k (joined y)) e ∙ of-high (n + (i - s - n)) k s (top * 2 ^ n + y) (w % 2 ^ s) (mod-lt w (pow-pos s)) ∙ of-high (i - s - n) k n top y lt in
       ⊎-elim
       (λ below. low-of x below ∙ sym (low-of (bits-at s n w) below))
       (λ over. high-of x h over ∙ sym (high-of (bits-at s n w) (mod-lt (w / 2 ^ s) (pow-pos n)) over))
@@ -123,8 +123,8 @@ module _ (f : Field) (v : ℕ) (inside : Inside f) (few : v < 2 ^ f .width) wher
       ⊎-elim
       (λ (lt : v < p). ap (λ b. cond {A = ℕ} b 1 0) (lt-leb p v lt) ∙ sym (ap (λ q. q % 2) (div-eq-of-lt lt)))
       (λ (le : p ≤ v).
-          let one : v / p ≡ 1 = div-eq-of-lt-le p {m = v} (omega arith) (omega arith) in
-          ap (λ b. cond {A = ℕ} b 1 0) (le-leb p v le) ∙ sym (ap (λ q. q % 2) one))
+      let one : v / p ≡ 1 = div-eq-of-lt-le p {m = v} (omega arith) (omega arith) in
+      ap (λ b. cond {A = ℕ} b 1 0) (le-leb p v le) ∙ sym (ap (λ q. q % 2) one))
       (cases-lt v p)
 
 -- what fills is the sign where it is asked for, else 0

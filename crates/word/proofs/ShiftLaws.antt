@@ -48,13 +48,13 @@ module _ (p w : ℕ) (places : p ≤ 36) (word : w < 2 ^ 36) where
   turned-bits i h =
       ⊎-elim
       (λ (lt : i + p < 36).
-          let e : (i + p) % 36 ≡ p + i = omega arith in
-          ap (λ j. bit j (turned p w)) e ∙ of-high i 1 p (w % 2 ^ (36 - p)) (w / 2 ^ (36 - p)) upper ∙ low-end i 1 (36 - p) w (omega arith))
+      let e : (i + p) % 36 ≡ p + i = omega arith in
+      ap (λ j. bit j (turned p w)) e ∙ of-high i 1 p (w % 2 ^ (36 - p)) (w / 2 ^ (36 - p)) upper ∙ low-end i 1 (36 - p) w (omega arith))
       (λ (le : 36 ≤ i + p).
-          let e : (i + p) % 36 ≡ i - (36 - p) = omega arith in
-          let b : (36 - p) + (i - (36 - p)) ≡ i = omega arith in
-          ap (λ j. bit j (turned p w)) e ∙ of-low (i - (36 - p)) 1 p (w % 2 ^ (36 - p)) (w / 2 ^ (36 - p)) upper (omega arith)
-          ∙ high-end (i - (36 - p)) 1 (36 - p) w ∙ ap (λ j. bit j w) b)
+      let e : (i + p) % 36 ≡ i - (36 - p) = omega arith in
+      let b : (36 - p) + (i - (36 - p)) ≡ i = omega arith in
+      ap (λ j. bit j (turned p w)) e ∙ of-low (i - (36 - p)) 1 p (w % 2 ^ (36 - p)) (w / 2 ^ (36 - p)) upper (omega arith)
+      ∙ high-end (i - (36 - p)) 1 (36 - p) w ∙ ap (λ j. bit j w) b)
       (cases-lt (i + p) 36)
 
 pub left-circular-bits : (n w : ℕ) → w < 2 ^ 36 → Left-circular n w (left-circular n w)
@@ -76,8 +76,8 @@ gone n w h =
     ⊎-elim
     (λ (lt : n < 36). let e : min n 36 ≡ n = omega arith in ap (λ k. w / 2 ^ k) e)
     (λ (le : 36 ≤ n).
-        let e : min n 36 ≡ 36 = omega arith in
-        ap (λ k. w / 2 ^ k) e ∙ div-eq-of-lt h ∙ sym (div-eq-of-lt (omega (arith, pow-mono le))))
+    let e : min n 36 ≡ 36 = omega arith in
+    ap (λ k. w / 2 ^ k) e ∙ div-eq-of-lt h ∙ sym (div-eq-of-lt (omega (arith, pow-mono le))))
     (cases-lt n 36)
 
 pub gone-left : (n w : ℕ) → w * 2 ^ min n 36 % 2 ^ 36 ≡ w * 2 ^ n % 2 ^ 36
@@ -85,19 +85,19 @@ gone-left n w =
     ⊎-elim
     (λ (lt : n < 36). let e : min n 36 ≡ n = omega arith in ap (λ k. w * 2 ^ k % 2 ^ 36) e)
     (λ (le : 36 ≤ n).
-        let e : min n 36 ≡ 36 = omega arith in
-        let d : n ≡ (n - 36) + 36 = omega arith in
-        ap (λ k. w * 2 ^ k % 2 ^ 36) e ∙ mul-mod-left w (2 ^ 36)
-        ∙ sym (ap (λ k. w * 2 ^ k % 2 ^ 36) d ∙ ap (λ y. w * y % 2 ^ 36) (pow-add 2 (n - 36) 36) ∙ ap (λ y. y % 2 ^ 36) (sym (mul-assoc w (2 ^ (n - 36)) (2 ^ 36))) ∙ mul-mod-left (w * 2 ^ (n - 36)) (2 ^ 36)))
+    let e : min n 36 ≡ 36 = omega arith in
+    let d : n ≡ (n - 36) + 36 = omega arith in
+    ap (λ k. w * 2 ^ k % 2 ^ 36) e ∙ mul-mod-left w (2 ^ 36)
+    ∙ sym (ap (λ k. w * 2 ^ k % 2 ^ 36) d ∙ ap (λ y. w * y % 2 ^ 36) (pow-add 2 (n - 36) 36) ∙ ap (λ y. y % 2 ^ 36) (sym (mul-assoc w (2 ^ (n - 36)) (2 ^ 36))) ∙ mul-mod-left (w * 2 ^ (n - 36)) (2 ^ 36)))
     (cases-lt n 36)
 
 pub left-logical-bits : (n w : ℕ) → Left-logical n w (left-logical n w)
 left-logical-bits n w = record {
   moved = λ i h. low-end (i + n) 1 36 (w * 2 ^ n) (omega arith) ∙ ap (λ j. bit j (w * 2 ^ n)) (add-comm i n) ∙ sym (high-end i 1 n (w * 2 ^ n)) ∙ ap (bit i) (shl-shr w n);
   zeros = λ i h. ⊎-elim
-    (λ (lt : i < 36). low-end i 1 36 (w * 2 ^ n) (omega arith) ∙ behind i n w h)
-    (λ (le : 36 ≤ i). above-all i 36 (w * 2 ^ n % 2 ^ 36) (mod-lt (w * 2 ^ n) (pow-pos 36)) le)
-    (cases-lt i 36);
+      (λ (lt : i < 36). low-end i 1 36 (w * 2 ^ n) (omega arith) ∙ behind i n w h)
+      (λ (le : 36 ≤ i). above-all i 36 (w * 2 ^ n % 2 ^ 36) (mod-lt (w * 2 ^ n) (pow-pos 36)) le)
+      (cases-lt i 36);
 }
 
 -- the sign, as a test, as the leftmost bit and as a bound
@@ -137,24 +137,24 @@ module _ (n w : ℕ) (word : w < 2 ^ 36) where
   right-algebraic-bits i h =
       ⊎-elim
       (λ s.
-          let r : right-algebraic n w ≡ w / 2 ^ n = ap (λ b. cond b (2 ^ 36 - 2 ^ (36 - n)) 0 + w / 2 ^ n) (s .1) ∙ omega arith in
-          ap (bit i) r ∙ right-logical-bits n w i ∙ ⊎-elim
-          (λ (lt : i + n < 36). let e : i + n ≡ min (i + n) 35 = omega arith in ap (λ j. bit j w) e)
-          (λ (le : 36 ≤ i + n). let e : 35 ≡ min (i + n) 35 = omega arith in above-all (i + n) 36 w word le ∙ sym (s .2) ∙ ap (λ j. bit j w) e)
-          (cases-lt (i + n) 36))
+      let r : right-algebraic n w ≡ w / 2 ^ n = ap (λ b. cond b (2 ^ 36 - 2 ^ (36 - n)) 0 + w / 2 ^ n) (s .1) ∙ omega arith in
+      ap (bit i) r ∙ right-logical-bits n w i ∙ ⊎-elim
+      (λ (lt : i + n < 36). let e : i + n ≡ min (i + n) 35 = omega arith in ap (λ j. bit j w) e)
+      (λ (le : 36 ≤ i + n). let e : 35 ≡ min (i + n) 35 = omega arith in above-all (i + n) 36 w word le ∙ sym (s .2) ∙ ap (λ j. bit j w) e)
+      (cases-lt (i + n) 36))
       (λ s.
-          let hi = 2 ^ min n 36 - 1 in
-          let k = 36 - min n 36 in
-          let r : right-algebraic n w ≡ hi * 2 ^ k + w / 2 ^ min n 36 = ones-on-top ∙ ap (λ b. cond b (hi * 2 ^ k) 0 + w / 2 ^ min n 36) (s .1) in
-          ap (bit i) r ∙ ⊎-elim
-          (λ (lt : i + n < 36).
-              let e : min n 36 + i ≡ min (i + n) 35 = omega arith in
-              of-low i 1 k hi (w / 2 ^ min n 36) lowered (omega arith) ∙ high-end i 1 (min n 36) w ∙ ap (λ j. bit j w) e)
-          (λ (le : 36 ≤ i + n).
-              let e : i ≡ k + (i - k) = omega arith in
-              let f : 35 ≡ min (i + n) 35 = omega arith in
-              ap (λ j. bit j (hi * 2 ^ k + w / 2 ^ min n 36)) e ∙ of-high (i - k) 1 k hi (w / 2 ^ min n 36) lowered ∙ ones-bit (min n 36) (i - k) (omega arith) ∙ sym (s .2) ∙ ap (λ j. bit j w) f)
-          (cases-lt (i + n) 36))
+      let hi = 2 ^ min n 36 - 1 in
+      let k = 36 - min n 36 in
+      let r : right-algebraic n w ≡ hi * 2 ^ k + w / 2 ^ min n 36 = ones-on-top ∙ ap (λ b. cond b (hi * 2 ^ k) 0 + w / 2 ^ min n 36) (s .1) in
+      ap (bit i) r ∙ ⊎-elim
+      (λ (lt : i + n < 36).
+      let e : min n 36 + i ≡ min (i + n) 35 = omega arith in
+      of-low i 1 k hi (w / 2 ^ min n 36) lowered (omega arith) ∙ high-end i 1 (min n 36) w ∙ ap (λ j. bit j w) e)
+      (λ (le : 36 ≤ i + n).
+      let e : i ≡ k + (i - k) = omega arith in
+      let f : 35 ≡ min (i + n) 35 = omega arith in
+      ap (λ j. bit j (hi * 2 ^ k + w / 2 ^ min n 36)) e ∙ of-high (i - k) 1 k hi (w / 2 ^ min n 36) lowered ∙ ones-bit (min n 36) (i - k) (omega arith) ∙ sym (s .2) ∙ ap (λ j. bit j w) f)
+      (cases-lt (i + n) 36))
       (signs w word)
 
 -- the bits of a number that takes m bits
@@ -190,8 +190,8 @@ module _ (w : ℕ) (word : w < 2 ^ 36) where
       ⊎-elim
       (λ s. let e : bit j w ≡ 1 = ap (bit j) (s .0) ∙ o in omega (arith, e, s .1, same))
       (λ s.
-          let e : bit j w ≡ 0 = ap (bit j) (s .0) ∙ complement-bit 36 j (magnitude 36 w) h (omega (arith, small)) ∙ ap (λ x. 1 - x) o in
-          omega (arith, e, s .1, same))
+      let e : bit j w ≡ 0 = ap (bit j) (s .0) ∙ complement-bit 36 j (magnitude 36 w) h (omega (arith, small)) ∙ ap (λ x. 1 - x) o in
+      omega (arith, e, s .1, same))
       (by-magnitude w word)
 
   -- the leftmost bits after a turn by k

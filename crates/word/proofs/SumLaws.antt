@@ -49,38 +49,38 @@ added false false false h m a b s hx hy hz e ha hb k = grind (arith, ints)
 module _ (n : ℕ) (wide : 0 < n) where
   addition : Addition n (modulus n)
   addition =
-    let e = doubled n wide in
-    let p = pow-pos (n - 1) in
-    record {
-      stays-a-word = λ a b ha hb. grind (arith, tells);
-      commutes = λ a b. grind (arith, tells);
-      associates = λ a b c ha hb hc. grind (arith, tells);
-      congruent = λ a b. congruent (modulus n) a b;
-      minus-zero-of-two = λ a b ha hb s. grind (arith, tells);
-      minus-zeros = grind (arith, tells);
-    }
+      let e = doubled n wide in
+      let p = pow-pos (n - 1) in
+      record {
+        stays-a-word = λ a b ha hb. grind (arith, tells);
+        commutes = λ a b. grind (arith, tells);
+        associates = λ a b c ha hb hc. grind (arith, tells);
+        congruent = λ a b. congruent (modulus n) a b;
+        minus-zero-of-two = λ a b ha hb s. grind (arith, tells);
+        minus-zeros = grind (arith, tells);
+      }
 
   complements : Complements n (modulus n)
   complements =
-    let e = doubled n wide in
-    let p = pow-pos (n - 1) in
-    record {
-      stays-a-word = λ a. omega arith;
-      cancels = λ a ha. grind (arith, tells);
-      twice = λ a ha. omega arith;
-      turns-the-sign = λ a ha. grind (arith, tells);
-      magnitude-unsigned = λ a ha. grind (arith, tells);
-    }
+      let e = doubled n wide in
+      let p = pow-pos (n - 1) in
+      record {
+        stays-a-word = λ a. omega arith;
+        cancels = λ a ha. grind (arith, tells);
+        twice = λ a ha. omega arith;
+        turns-the-sign = λ a ha. grind (arith, tells);
+        magnitude-unsigned = λ a ha. grind (arith, tells);
+      }
 
   either : (a b : ℕ) → a < 2 ^ n → b < 2 ^ n → let P = value n (sum (modulus n) a b) ≡ value n a +ℤ value n b in When (overflows n a b) (P → ⊥) P
   unfolding signed-by
   either a b ha hb =
-    let h = 2 ^ (n - 1) in
-    let m = modulus n in
-    let s = sum m a b in
-    let e = doubled n wide in
-    let p = pow-pos (n - 1) in
-    added (negative n a) (negative n b) (negative n s) h m a b s (sign-told h a) (sign-told h b) (sign-told h s) (omega arith) (omega arith) (omega arith) (plain-or-less m a b)
+      let h = 2 ^ (n - 1) in
+      let m = modulus n in
+      let s = sum m a b in
+      let e = doubled n wide in
+      let p = pow-pos (n - 1) in
+      added (negative n a) (negative n b) (negative n s) h m a b s (sign-told h a) (sign-told h b) (sign-told h s) (omega arith) (omega arith) (omega arith) (plain-or-less m a b)
 
   values : Values n (modulus n)
   values = record {
@@ -90,16 +90,16 @@ module _ (n : ℕ) (wide : 0 < n) where
 
   order : Order n (modulus n)
   order =
-    let e = doubled n wide in
-    let p = pow-pos (n - 1) in
-    record {
-      irreflexive = λ a. grind (arith, tells);
-      transitive = λ a b c g h. grind (arith, tells);
-      total = λ a b. grind (arith, tells);
-      zeros-apart = (λ z. omega arith, grind (arith, tells));
-      by-value = λ a b ha hb z g. grind (arith, ints, tells);
-      of-values = λ a b ha hb v. grind (arith, ints, tells);
-    }
+      let e = doubled n wide in
+      let p = pow-pos (n - 1) in
+      record {
+        irreflexive = λ a. grind (arith, tells);
+        transitive = λ a b c g h. grind (arith, tells);
+        total = λ a b. grind (arith, tells);
+        zeros-apart = (λ z. omega arith, grind (arith, tells));
+        by-value = λ a b ha hb z g. grind (arith, ints, tells);
+        of-values = λ a b ha hb v. grind (arith, ints, tells);
+      }
 
 pub sum-laws : (n : ℕ) → 0 < n → Sum-laws n
 sum-laws n wide = record { addition = addition n wide; complements = complements n wide; values = values n wide; order = order n wide }

@@ -6,40 +6,95 @@ ghost use mathlib.Core.Path.{_≡_};
 ghost use Rattle.word.specs.Bits.{bits-at};
 ghost use Rattle.word.specs.Parts.{agrees, field, filled, stored, takes-sign, Inside};
 ghost use Rattle.word.specs.Sums.{negative};
-
 use crate::words::ONES;
 use crate::words::Word;
 
 /// What stands to the left of a field that was read.
 #[derive(Clone, Copy)]
-pub enum Fill {
+pub(crate) enum Fill {
     Zeros,
     Sign,
 }
 
 /// A field of a word: its rightmost bit, how many bits it has, and what fills a whole word up.
 #[derive(Clone, Copy)]
-pub struct Field {
-    pub start: u32,
-    pub width: u32,
-    pub fill: Fill,
+pub(crate) struct Field {
+    start: u32,
+    width: u32,
+    fill: Fill,
 }
 
 static FIELDS: [Field; 14] = [
-    Field { start: 0, width: 36, fill: Fill::Zeros },
-    Field { start: 0, width: 18, fill: Fill::Zeros },
-    Field { start: 18, width: 18, fill: Fill::Zeros },
-    Field { start: 0, width: 18, fill: Fill::Sign },
-    Field { start: 18, width: 18, fill: Fill::Sign },
-    Field { start: 0, width: 12, fill: Fill::Sign },
-    Field { start: 12, width: 12, fill: Fill::Sign },
-    Field { start: 24, width: 12, fill: Fill::Sign },
-    Field { start: 0, width: 6, fill: Fill::Zeros },
-    Field { start: 6, width: 6, fill: Fill::Zeros },
-    Field { start: 12, width: 6, fill: Fill::Zeros },
-    Field { start: 18, width: 6, fill: Fill::Zeros },
-    Field { start: 24, width: 6, fill: Fill::Zeros },
-    Field { start: 30, width: 6, fill: Fill::Zeros },
+    Field {
+        start: 0,
+        width: 36,
+        fill: Fill::Zeros,
+    },
+    Field {
+        start: 0,
+        width: 18,
+        fill: Fill::Zeros,
+    },
+    Field {
+        start: 18,
+        width: 18,
+        fill: Fill::Zeros,
+    },
+    Field {
+        start: 0,
+        width: 18,
+        fill: Fill::Sign,
+    },
+    Field {
+        start: 18,
+        width: 18,
+        fill: Fill::Sign,
+    },
+    Field {
+        start: 0,
+        width: 12,
+        fill: Fill::Sign,
+    },
+    Field {
+        start: 12,
+        width: 12,
+        fill: Fill::Sign,
+    },
+    Field {
+        start: 24,
+        width: 12,
+        fill: Fill::Sign,
+    },
+    Field {
+        start: 0,
+        width: 6,
+        fill: Fill::Zeros,
+    },
+    Field {
+        start: 6,
+        width: 6,
+        fill: Fill::Zeros,
+    },
+    Field {
+        start: 12,
+        width: 6,
+        fill: Fill::Zeros,
+    },
+    Field {
+        start: 18,
+        width: 6,
+        fill: Fill::Zeros,
+    },
+    Field {
+        start: 24,
+        width: 6,
+        fill: Fill::Zeros,
+    },
+    Field {
+        start: 30,
+        width: 6,
+        fill: Fill::Zeros,
+    },
 ];
 
 fn table() -> &'static [Field; 14]
@@ -50,7 +105,7 @@ fn table() -> &'static [Field; 14]
 }
 
 /// The field that the selector j names.
-pub fn field_at(j: u32) -> Field
+pub(crate) fn field_at(j: u32) -> Field
     requires { ⌜ j < 14 ⌝ }
     ensures { λ r. ⌜ r ≡ field j ⌝ }
 {
@@ -68,7 +123,7 @@ impl Field {
     }
 
     /// The number that the field's bits of a word write.
-    pub fn number(self, word: Word) -> u64
+    pub(crate) fn number(self, word: Word) -> u64
         requires { ⌜ Inside self ⌝ }
         ensures { λ r. ⌜ r ≡ bits-at (self .start) (self .width) (word .bits) ⌝ }
     {
@@ -87,7 +142,7 @@ impl Field {
     }
 
     /// A number of the field's width as a whole word.
-    pub fn filled(self, number: u64) -> Word
+    pub(crate) fn filled(self, number: u64) -> Word
         requires { ⌜ Inside self ⌝ ∗ ⌜ number < 2 ^ self .width ⌝ }
         ensures { λ r. ⌜ r .bits ≡ filled self number ⌝ }
     {
@@ -101,7 +156,7 @@ impl Field {
     }
 
     /// A word whose field has the lowest bits of a value.
-    pub fn stored(self, word: Word, value: Word) -> Word
+    pub(crate) fn stored(self, word: Word, value: Word) -> Word
         requires { ⌜ Inside self ⌝ }
         ensures { λ r. ⌜ r .bits ≡ stored self (word .bits) (value .bits) ⌝ }
     {

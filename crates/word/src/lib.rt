@@ -1,12 +1,12 @@
 // Words of 36 bits in ones' complement, as the 1108 computes with them.
-mod words;
-mod sums;
 mod adder;
-mod logic;
 mod fields;
+mod figures;
+mod logic;
 mod parts;
 mod shifts;
-mod figures;
+mod sums;
+mod words;
 
 pub use adder::Adder;
 pub use figures::Figures;
@@ -16,4 +16,8 @@ pub use shifts::Count;
 pub use shifts::Counted;
 pub use sums::Sum;
 pub use words::Half;
+pub use words::HalfDebug;
+pub use words::HalfPartialEq;
 pub use words::Word;
+pub use words::WordDebug;
+pub use words::WordPartialEq;

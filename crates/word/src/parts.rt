@@ -18,11 +18,7 @@ impl Part {
     pub fn new(j: u32) -> Option<Part>
         ensures { λ r. ⌜ Cases r (14 ≤ j) (λ p. p .j ≡ j) ⌝ }
     {
-        if j < 0o16 {
-            Some(Part { j })
-        } else {
-            None
-        }
+        if j < 0o16 { Some(Part { j }) } else { None }
     }
 }
 

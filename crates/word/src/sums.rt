@@ -42,14 +42,20 @@ impl Word {
         ensures overflow { λ r. ⌜ r .overflow ≡ overflows 36 (self .bits) (other .bits) ⌝ }
     {
         let sum = add_at_width(36, self.bits, other.bits);
-        Sum { total: Word { bits: sum.total }, carry: sum.carry, overflow: sum.overflow }
+        Sum {
+            total: Word { bits: sum.total },
+            carry: sum.carry,
+            overflow: sum.overflow,
+        }
     }
 
     /// Each bit the other way.
     pub fn complement(self) -> Word
         ensures { λ r. ⌜ r .bits ≡ complement (modulus 36) (self .bits) ⌝ }
     {
-        Word { bits: ONES - self.bits }
+        Word {
+            bits: ONES - self.bits,
+        }
     }
 
     /// Whether the sign, the leftmost bit, stands.

@@ -29,7 +29,9 @@ impl Word {
     pub fn of_lowest(number: u64) -> Word
         ensures { λ r. ⌜ r .bits ≡ number % 2 ^ 36 ⌝ }
     {
-        Word { bits: number % (1 << 36) }
+        Word {
+            bits: number % (1 << 36),
+        }
     }
 
     /// The number that the bits write.

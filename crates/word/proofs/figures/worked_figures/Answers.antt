@@ -23,11 +23,11 @@ returns c = record {
   address-past-minus-zero = (c .plus-2 .ensures ∙ (λ i. sum (modulus 18) (c .of-lowest-3 .ensures i) (c .of-lowest-4 .ensures i)), refl);
   minus-zeros = (c .plus-3 .ensures .total ∙ (λ i. sum (modulus 36) (c .of-lowest-minus-zero .ensures i) (c .of-lowest-minus-zero .ensures i)), refl);
   greatest-plus-one =
-    let s = c .plus-4 .ensures in
-    (summed (c .plus-4 .result) _ _ _ _ (s .total) (s .carry) (s .overflow) (c .of-lowest-5 .ensures) (c .of-lowest-one .ensures), refl);
+      let s = c .plus-4 .ensures in
+      (summed (c .plus-4 .result) _ _ _ _ (s .total) (s .carry) (s .overflow) (c .of-lowest-5 .ensures) (c .of-lowest-one .ensures), refl);
   unlike-zeros =
-    let s = c .plus-5 .ensures in
-    (summed (c .plus-5 .result) _ _ _ _ (s .total) (s .carry) (s .overflow) (c .of-lowest-minus-zero .ensures) (c .of-lowest-6 .ensures), refl);
+      let s = c .plus-5 .ensures in
+      (summed (c .plus-5 .result) _ _ _ _ (s .total) (s .carry) (s .overflow) (c .of-lowest-minus-zero .ensures) (c .of-lowest-6 .ensures), refl);
   right-six-circular = (c .right-circular .ensures .number ∙ ap (right-circular 6) (c .of-lowest-shifted .ensures), refl);
   right-six-algebraic = (c .right-algebraic .ensures .number ∙ ap (right-algebraic 6) (c .of-lowest-shifted .ensures), refl);
   one-turned = (c .shift-and-count .ensures .word ∙ ap (λ w. left-circular (turns w) w) (c .of-lowest-one .ensures), refl);

@@ -1,0 +1,7 @@
+// The machine's worked examples beyond the proved figures, as tables that are run.
+#[cfg(test)]
+mod fields;
+#[cfg(test)]
+mod shifts;
+#[cfg(test)]
+mod sums;
