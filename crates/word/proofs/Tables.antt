@@ -18,21 +18,24 @@ fills-equal Zeros Sign t = absurd (false≢true t)
 fills-equal Sign Zeros t = absurd (false≢true t)
 fills-equal Sign Sign t = refl
 
-fields-equal : (f g : Field) → same-field f g ≡ true → f ≡ g
-fields-equal f g t =
-    let s = and-parts (eqb (f .start) (g .start)) (eqb (f .width) (g .width) && same-fill (f .fill) (g .fill)) t in
-    let u = and-parts (eqb (f .width) (g .width)) (same-fill (f .fill) (g .fill)) (s .1) in
-    let p = eqb-true (f .start) (g .start) (s .0) in
-    let q = eqb-true (f .width) (g .width) (u .0) in
-    let r = fills-equal (f .fill) (g .fill) (u .1) in
+abbrev pub of-row : ℕ × ℕ × Fill → Field
+of-row row = record { start = row .0; width = row .1; fill = row .2 }
+
+row-equal : (row : ℕ × ℕ × Fill) (f : Field) → same-field row f ≡ true → of-row row ≡ f
+row-equal row f t =
+    let s = and-parts (eqb (row .0) (f .start)) (eqb (row .1) (f .width) && same-fill (row .2) (f .fill)) t in
+    let u = and-parts (eqb (row .1) (f .width)) (same-fill (row .2) (f .fill)) (s .1) in
+    let p = eqb-true (row .0) (f .start) (s .0) in
+    let q = eqb-true (row .1) (f .width) (u .0) in
+    let r = fills-equal (row .2) (f .fill) (u .1) in
     λ i. record { start = p i; width = q i; fill = r i }
 
-from : (fs : List Field) (j : ℕ) → agrees j fs ≡ true → (k : ℕ) (d : Field) → k < length fs → getD fs k d ≡ field (j + k)
+from : (rows : List (ℕ × ℕ × Fill)) (j : ℕ) → agrees j rows ≡ true → (k : ℕ) (d : ℕ × ℕ × Fill) → k < length rows → of-row (getD rows k d) ≡ field (j + k)
 from [] j t k d h = absurd (not-suc-le-zero h)
-from (f ∷ fs) j t zero d h = fields-equal f (field j) (and-parts (same-field f (field j)) (agrees (suc j) fs) t .0) ∙ ap field (sym (add-zero j))
-from (f ∷ fs) j t (suc k) d h =
-    from fs (suc j) (and-parts (same-field f (field j)) (agrees (suc j) fs) t .1) k d (le-of-suc-le-suc h)
+from (row ∷ rows) j t zero d h = row-equal row (field j) (and-parts (same-field row (field j)) (agrees (suc j) rows) t .0) ∙ ap field (sym (add-zero j))
+from (row ∷ rows) j t (suc k) d h =
+    from rows (suc j) (and-parts (same-field row (field j)) (agrees (suc j) rows) t .1) k d (le-of-suc-le-suc h)
     ∙ ap field (suc-add j k ∙ sym (add-suc j k))
 
-pub tabled : (fs : List Field) → agrees 0 fs ≡ true → (k : ℕ) (d : Field) → k < length fs → getD fs k d ≡ field k
-tabled fs t k d h = from fs 0 t k d h ∙ ap field (zero-add k)
+pub tabled : (rows : List (ℕ × ℕ × Fill)) → agrees 0 rows ≡ true → (k : ℕ) (d : ℕ × ℕ × Fill) → k < length rows → of-row (getD rows k d) ≡ field k
+tabled rows t k d h = from rows 0 t k d h ∙ ap field (zero-add k)

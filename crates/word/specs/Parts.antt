@@ -36,13 +36,14 @@ same-fill Zeros Sign = false
 same-fill Sign Zeros = false
 same-fill Sign Sign = true
 
-abbrev pub same-field : Field → Field → Bool
-same-field f g = eqb (f .start) (g .start) && (eqb (f .width) (g .width) && same-fill (f .fill) (g .fill))
+-- a row of the table has the start, the width and the fill of a field
+abbrev pub same-field : ℕ × ℕ × Fill → Field → Bool
+same-field row f = eqb (row .0) (f .start) && (eqb (row .1) (f .width) && same-fill (row .2) (f .fill))
 
--- each entry of the table, counted from j, is the field that the rule gives
-abbrev pub agrees : ℕ → List Field → Bool
+-- each row of the table, counted from j, has the field that j selects
+abbrev pub agrees : ℕ → List (ℕ × ℕ × Fill) → Bool
 agrees j [] = true
-agrees j (f ∷ fs) = same-field f (field j) && agrees (suc j) fs
+agrees j (row ∷ rows) = same-field row (field j) && agrees (suc j) rows
 
 abbrev pub takes-sign : Fill → Bool
 takes-sign Zeros = false

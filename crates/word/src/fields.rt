@@ -1,5 +1,5 @@
 // The table of the fields that a selector can name, and how one field is read and stored.
-ghost use Prim.Native.Nat.{_^_, _<_, _≤_, _%_, _+_, _-_, _*_};
+ghost use Prim.Native.Nat.{_^_, _<_, _+_, _-_};
 ghost use lib.ListN.{length};
 ghost use mathlib.Core.Bool.{true, _&&_};
 ghost use mathlib.Core.Path.{_≡_};
@@ -24,80 +24,25 @@ pub(crate) struct Field {
     fill: Fill,
 }
 
-static FIELDS: [Field; 14] = [
-    Field {
-        start: 0,
-        width: 36,
-        fill: Fill::Zeros,
-    },
-    Field {
-        start: 0,
-        width: 18,
-        fill: Fill::Zeros,
-    },
-    Field {
-        start: 18,
-        width: 18,
-        fill: Fill::Zeros,
-    },
-    Field {
-        start: 0,
-        width: 18,
-        fill: Fill::Sign,
-    },
-    Field {
-        start: 18,
-        width: 18,
-        fill: Fill::Sign,
-    },
-    Field {
-        start: 0,
-        width: 12,
-        fill: Fill::Sign,
-    },
-    Field {
-        start: 12,
-        width: 12,
-        fill: Fill::Sign,
-    },
-    Field {
-        start: 24,
-        width: 12,
-        fill: Fill::Sign,
-    },
-    Field {
-        start: 0,
-        width: 6,
-        fill: Fill::Zeros,
-    },
-    Field {
-        start: 6,
-        width: 6,
-        fill: Fill::Zeros,
-    },
-    Field {
-        start: 12,
-        width: 6,
-        fill: Fill::Zeros,
-    },
-    Field {
-        start: 18,
-        width: 6,
-        fill: Fill::Zeros,
-    },
-    Field {
-        start: 24,
-        width: 6,
-        fill: Fill::Zeros,
-    },
-    Field {
-        start: 30,
-        width: 6,
-        fill: Fill::Zeros,
-    },
+/// Start, width and fill of each field, by its selector.
+const FIELDS: [(u32, u32, Fill); 14] = [
+    (0, 36, Fill::Zeros),
+    (0, 18, Fill::Zeros),
+    (18, 18, Fill::Zeros),
+    (0, 18, Fill::Sign),
+    (18, 18, Fill::Sign),
+    (0, 12, Fill::Sign),
+    (12, 12, Fill::Sign),
+    (24, 12, Fill::Sign),
+    (0, 6, Fill::Zeros),
+    (6, 6, Fill::Zeros),
+    (12, 6, Fill::Zeros),
+    (18, 6, Fill::Zeros),
+    (24, 6, Fill::Zeros),
+    (30, 6, Fill::Zeros),
 ];
 
-fn table() -> &'static [Field; 14]
+fn table() -> &'static [(u32, u32, Fill); 14]
     ensures rule { λ r. ⌜ agrees 0 (now r) ≡ true ⌝ }
     ensures len { λ r. ⌜ length (now r) ≡ 14 ⌝ }
 {
@@ -109,7 +54,8 @@ pub(crate) fn field_at(j: u32) -> Field
     requires { ⌜ j < 14 ⌝ }
     ensures { λ r. ⌜ r ≡ field j ⌝ }
 {
-    table()[j as usize]
+    let (start, width, fill) = table()[j as usize];
+    Field { start, width, fill }
 }
 
 impl Field {

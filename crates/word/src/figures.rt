@@ -1,10 +1,10 @@
 // The machine's worked figures, as the code computes them.
 ghost use Rattle.word.specs.Figures.{Worked};
+use crate::halves::Half;
 use crate::parts::Part;
 use crate::shifts::Count;
 use crate::shifts::Counted;
 use crate::sums::Sum;
-use crate::words::Half;
 use crate::words::Word;
 
 /// What the code gives for each figure.

@@ -1,5 +1,5 @@
 // Shifts of one word by a count of places.
-ghost use Prim.Native.Nat.{_^_, _<_, _≤_, _%_, _+_, _-_, _*_};
+ghost use Prim.Native.Nat.{_<_, _≤_, _%_, _+_, _-_};
 ghost use mathlib.Core.Path.{_≡_};
 ghost use Rattle.std.specs.Options.{Cases};
 ghost use Rattle.word.specs.Shifts.{turned, right-circular, left-circular, right-logical, left-logical, right-algebraic, Right-circular, Left-circular, Right-logical, Left-logical, Right-algebraic, turns, Turned};

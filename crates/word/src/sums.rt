@@ -1,10 +1,9 @@
 // Sums in ones' complement, at any width.
-ghost use Prim.Native.Nat.{_^_, _<_, _≤_, _%_};
+ghost use Prim.Native.Nat.{_^_, _<_};
 ghost use mathlib.Core.Path.{_≡_};
-ghost use Rattle.std.specs.Options.{Cases};
 ghost use Rattle.word.specs.Adding.{added};
 ghost use Rattle.word.specs.Sums.{modulus, sum, complement, negative, magnitude, carries, overflows, value, greater};
-use crate::words::Half;
+use crate::halves::Half;
 use crate::words::ONES;
 use crate::words::Word;
 
