@@ -1,5 +1,6 @@
 pub mod Bitwise
 pub mod FieldLaws
+pub mod Octal
 pub mod ShiftLaws
 pub mod SumLaws
 pub mod Tables

@@ -8,9 +8,9 @@ use native.Mathlib.Omega.{arith}
 use lib.Arith.{digits-lt, mod-mul}
 use lib.Bits.{bitAnd}
 use lib.Count.{leadingZeros, leading-le, leading-length, leading-unique}
-use lib.Pow.{pow-pos, pow-add, pow-mono, shr-lt, shl-shr, split, high, mod-mod-pow, high-ones}
+use lib.Pow.{pow-pos, pow-add, pow-mono, shr-lt, shl-shr, split, high, mod-mod-pow, high-ones, ones-lt, shr-le}
 use Rattle.std.proofs.shelf.Bits.{and-mask}
-use Rattle.std.proofs.shelf.Tests.{cases-lt}
+use Rattle.std.proofs.shelf.Tests.{cases-lt, cond-both}
 use Rattle.std.proofs.shelf.Ways.{tells}
 use Rattle.word.specs.Bits.{bit, bits-at}
 use Rattle.word.specs.Shifts.{turned, left-circular, right-circular, left-logical, right-logical, right-algebraic, Left-circular, Right-circular, Left-logical, Right-logical, Right-algebraic, turns, Turned, Unlike}
@@ -108,6 +108,13 @@ signs w h =
     (λ (le : 2 ^ 35 ≤ w). inr (le, grind (arith, tells), omega arith))
     (cases-lt w (2 ^ 35))
 
+-- the ones that come in for a sign
+sign-fill : (p : ℕ) → p ≤ 36 → 2 ^ 36 - 1 - (2 ^ 36 - 1) / 2 ^ p ≡ 2 ^ 36 - 2 ^ (36 - p)
+sign-fill p h =
+    let e : (36 - p) + p ≡ 36 = omega arith in
+    let d = subst (λ k. 0 < 2 ^ k → (2 ^ k - 1 - 0) / 2 ^ p ≡ 2 ^ (36 - p) - 1 - 0 / 2 ^ p) e (complement-high (36 - p) p 0) (pow-pos 36) in
+    omega (arith, d, zero-div (2 ^ p), pow-pos (36 - p))
+
 module _ (n w : ℕ) (word : w < 2 ^ 36) where
   lowered : w / 2 ^ min n 36 < 2 ^ (36 - min n 36)
   lowered =
@@ -122,16 +129,23 @@ module _ (n w : ℕ) (word : w < 2 ^ 36) where
       let t = subst (λ k. 2 ^ k - 2 ^ (36 - min n 36) ≡ (2 ^ min n 36 - 1) * 2 ^ (36 - min n 36)) e (high-ones (min n 36) (36 - min n 36)) in
       (λ i. cond (negative 36 w) ((ap (λ k. 2 ^ 36 - 2 ^ k) f ∙ t) i) 0 + sym (gone n w word) i)
 
-  -- as the code computes it: zeros into the complement
-  pub by-complement : negative 36 w ≡ true → 2 ^ 36 - 1 - (2 ^ 36 - 1 - w) / 2 ^ n ≡ right-algebraic n w
-  by-complement s =
-      let e : (36 - min n 36) + min n 36 ≡ 36 = omega arith in
-      let f : 36 - n ≡ 36 - min n 36 = omega arith in
-      let d = subst (λ k. w < 2 ^ k → (2 ^ k - 1 - w) / 2 ^ min n 36 ≡ 2 ^ (36 - min n 36) - 1 - w / 2 ^ min n 36) e (complement-high (36 - min n 36) (min n 36) w) word in
-      let g = gone n (2 ^ 36 - 1 - w) (omega arith) in
-      let h = gone n w word in
-      let b = pow-mono {i = 36 - min n 36} {j = 36} (omega arith) in
-      ap (λ k. 2 ^ 36 - 1 - k) (sym g ∙ d) ∙ omega (arith, lowered, h, b, ap (λ k. 2 ^ k) f) ∙ sym (ap (λ t. cond t (2 ^ 36 - 2 ^ (36 - n)) 0 + w / 2 ^ n) s)
+  pub right-algebraic-fits : right-algebraic n w < 2 ^ 36
+  right-algebraic-fits =
+      let p = min n 36 in
+      let e : p + (36 - p) ≡ 36 = omega arith in
+      let top : (2 ^ p - 1) * 2 ^ (36 - p) + w / 2 ^ p < 2 ^ p * 2 ^ (36 - p) = digits-lt (ones-lt p) lowered in
+      let whole : 2 ^ p * 2 ^ (36 - p) ≡ 2 ^ 36 = sym (pow-add 2 p (36 - p)) ∙ ap (λ k. 2 ^ k) e in
+      let small = shr-le w p in
+      subst (λ r. r < 2 ^ 36) (sym ones-on-top) (cond-both (negative 36 w) ((2 ^ p - 1) * 2 ^ (36 - p)) 0 (λ x. x + w / 2 ^ p < 2 ^ 36) (λ t. omega arith) (λ t. omega arith))
+
+  -- as the code computes it
+  pub by-signs : (signs : ℕ) → signs ≡ cond (negative 36 w) (2 ^ 36 - 1) 0 → signs - signs / 2 ^ min n 36 + w / 2 ^ min n 36 ≡ right-algebraic n w
+  by-signs signs is =
+      let p = min n 36 in
+      let f : 36 - n ≡ 36 - p = omega arith in
+      let filled : (b : Bool) → cond b (2 ^ 36 - 1) 0 - cond b (2 ^ 36 - 1) 0 / 2 ^ p ≡ cond b (2 ^ 36 - 2 ^ (36 - n)) 0 =
+      λ b. elim b as (λ t. cond t (2 ^ 36 - 1) 0 - cond t (2 ^ 36 - 1) 0 / 2 ^ p ≡ cond t (2 ^ 36 - 2 ^ (36 - n)) 0) [ true ↦ sign-fill p (omega arith) ∙ sym (ap (λ k. 2 ^ 36 - 2 ^ k) f) | false ↦ omega arith ] in
+      ap (λ x. x - x / 2 ^ p + w / 2 ^ p) is ∙ (λ i. filled (negative 36 w) i + gone n w word i)
 
   pub right-algebraic-bits : Right-algebraic n w (right-algebraic n w)
   right-algebraic-bits i h =

@@ -1,5 +1,6 @@
 pub mod Adding
 pub mod Bits
+pub mod Digits
 pub mod Figures
 pub mod Parts
 pub mod Shifts

@@ -1,5 +1,6 @@
 // Words of 36 bits in ones' complement, as the 1108 computes with them.
 mod adder;
+mod digits;
 mod fields;
 mod figures;
 mod halves;
@@ -10,6 +11,10 @@ mod sums;
 mod words;
 
 pub use adder::Adder;
+pub use digits::DigitsError;
+pub use digits::DigitsErrorDisplay;
+pub use digits::WORD_DIGITS;
+pub use digits::WordDisplay;
 pub use figures::Figures;
 pub use figures::worked_figures;
 pub use halves::Half;

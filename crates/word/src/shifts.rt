@@ -1,8 +1,10 @@
 // Shifts of one word by a count of places.
 ghost use Prim.Native.Nat.{_<_, _≤_, _%_, _+_, _-_};
+ghost use mathlib.Core.Bool.{cond};
 ghost use mathlib.Core.Path.{_≡_};
 ghost use Rattle.std.specs.Options.{Cases};
 ghost use Rattle.word.specs.Shifts.{turned, right-circular, left-circular, right-logical, left-logical, right-algebraic, Right-circular, Left-circular, Right-logical, Left-logical, Right-algebraic, turns, Turned};
+ghost use Rattle.word.specs.Sums.{modulus, negative};
 use crate::words::ONES;
 use crate::words::Word;
 use crate::words::WordDebug;
@@ -77,10 +79,10 @@ impl Word {
         ensures number { λ r. ⌜ r .bits ≡ right-algebraic (count .places) (self .bits) ⌝ }
         ensures bits { λ r. ⌜ Right-algebraic (count .places) (self .bits) (r .bits) ⌝ }
     {
-        if self.is_negative() {
-            self.complement().right_logical(count).complement()
-        } else {
-            self.right_logical(count)
+        let places = count.places.min(36);
+        let signs = self.signs();
+        Word {
+            bits: (signs - (signs >> places)) + (self.bits >> places),
         }
     }
 
@@ -95,6 +97,13 @@ impl Word {
             word: self.turned_left(count),
             count,
         }
+    }
+
+    // As many bits like the sign as a word has.
+    fn signs(self) -> u64
+        ensures { λ r. ⌜ r ≡ cond (negative 36 (self .bits)) (modulus 36) 0 ⌝ }
+    {
+        if self.is_negative() { ONES } else { 0 }
     }
 
     fn turned_left(self, places: u32) -> Word

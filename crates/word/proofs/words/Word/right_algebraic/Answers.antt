@@ -1,23 +1,22 @@
 use mathlib.Core.Path.{_≡_, sym, ap, subst, _∙_}
-use mathlib.Core.Bool.{cond}
-use Prim.Native.Nat.{_+_, _-_, _/_, _^_}
-use native.Mathlib.Nat.{zero-add}
+use Prim.Native.Nat.{_+_, _-_, _/_, _^_, _<_, min}
 use Rattle.word.specs.Shifts.{Right-algebraic, right-algebraic}
-use Rattle.word.proofs.ShiftLaws.{by-complement, right-algebraic-bits}
+use Rattle.word.proofs.ShiftLaws.{by-signs, right-algebraic-bits, right-algebraic-fits}
 use Rattle.word.proofs.words.Word.right_algebraic.Needs as need
+use Rattle.word.proofs.words.Word.right_algebraic.Needs.{After-signs-signs}
 
-pub returns-then-is-negative : need.returns-then-is-negative
-returns-then-is-negative c =
+computed : (c : After-signs-signs) → c .signs-signs .result - c .signs-signs .result / 2 ^ c .min-places .result + c .args .self .bits / 2 ^ c .min-places .result ≡ right-algebraic (c .args .count .places) (c .args .self .bits)
+computed c =
+    let w = c .args .self .bits in
+    let s = c .signs-signs .result in
+    ap (λ p. s - s / 2 ^ p + w / 2 ^ p) (c .min-places .ensures) ∙ by-signs (c .args .count .places) w (c .args .self .fits) s (c .signs-signs .ensures)
+
+pub ghost-result : need.ghost-result
+ghost-result c = (subst (λ r. r < 2 ^ 36) (sym (computed (need.at·ghost-result c .After-signs-signs))) (right-algebraic-fits (c .args .count .places) (c .args .self .bits) (c .args .self .fits)), tt)
+
+pub returns : need.returns
+returns c =
     let w = c .args .self .bits in
     let n = c .args .count .places in
-    let shifted = c .right-logical .ensures .number ∙ ap (λ x. x / 2 ^ n) (c .complement .ensures) in
-    let e = c .complement-then-is-negative .ensures ∙ ap (λ x. 2 ^ 36 - 1 - x) shifted ∙ by-complement n w (c .args .self .fits) (sym (c .if-is-negative .ensures tt)) in
-    record { number = e; bits = subst (Right-algebraic n w) (sym e) (right-algebraic-bits n w (c .args .self .fits)) }
-
-pub returns-else-is-negative : need.returns-else-is-negative
-returns-else-is-negative c =
-    let w = c .args .self .bits in
-    let n = c .args .count .places in
-    let plain = c .right-logical-else-is-negative .ensures .number ∙ sym (zero-add (w / 2 ^ n)) in
-    let e = plain ∙ ap (λ t. cond t (2 ^ 36 - 2 ^ (36 - n)) 0 + w / 2 ^ n) (c .if-is-negative .ensures tt) in
+    let e = computed (need.at·returns c .After-signs-signs) in
     record { number = e; bits = subst (Right-algebraic n w) (sym e) (right-algebraic-bits n w (c .args .self .fits)) }
