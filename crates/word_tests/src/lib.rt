@@ -1,4 +1,4 @@
-// The machine's worked examples beyond the proved figures, as tables that are run.
+// Worked examples of the machine beyond the proved figures, as tables that are run.
 #[cfg(test)]
 mod fields;
 #[cfg(test)]

@@ -1,4 +1,4 @@
-// Shifts of 765432101234o and of the two zeros, as the machine's manual works them.
+// Shifts of 765432101234o and of the two zeros.
 use std::test::*;
 use word::Count;
 use word::Word;

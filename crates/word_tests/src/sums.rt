@@ -1,4 +1,4 @@
-// Sums, differences, signs, order and logic, as the machine's manual works them.
+// Sums, differences, signs, order and logic.
 use std::test::*;
 use word::Adder;
 use word::Half;
