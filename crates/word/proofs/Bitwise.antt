@@ -1,9 +1,9 @@
 -- Bits of parts of a number: of its low end, of its high end, of two ends put together. Assumes nothing.
-use mathlib.Core.Path.{_≡_, refl, sym, ap, subst, _∙_}
+use mathlib.Core.Path.{_≡_, sym, ap, subst, _∙_}
 use Prim.Native.Nat.{ℕ, suc, _+_, _-_, _*_, _/_, _%_, _^_, _<_, _≤_}
-use native.Mathlib.Nat.{add-comm, mul-comm, zero-div, zero-mod, mod-lt, mod-eq-of-lt, div-eq-of-lt, pow-suc, mul-mod-left, mul-assoc, add-mul, sub-zero}
+use native.Mathlib.Nat.{zero-div, mod-lt, div-eq-of-lt, pow-suc, mul-mod-left, mul-assoc, add-mul, sub-zero}
 use native.Mathlib.Omega.{arith}
-use lib.Pow.{pow-pos, pow-add, pow-mono, shr-shr, shl-shr, shr-lt, split, high, low, field, mod-mod-pow, ones-split}
+use lib.Pow.{pow-pos, pow-add, pow-mono, shr-shr, shl-shr, shr-lt, split, high, low, field, mod-mod-pow}
 use Rattle.word.specs.Bits.{bit, bits-at}
 
 -- bits of the k lowest bits are bits of the number

@@ -1,9 +1,9 @@
 -- What reading and storing a field give, bit by bit. Assumes nothing.
 use mathlib.Core.Path.{_≡_, refl, sym, ap, subst, _∙_}
 use mathlib.Core.Bool.{Bool, true, false, cond, _&&_}
-use mathlib.Core.Logic.{_⊎_, inl, inr, ⊎-elim}
-use Prim.Native.Nat.{ℕ, suc, _+_, _-_, _*_, _/_, _%_, _^_, _<_, _≤_}
-use native.Mathlib.Nat.{add-comm, add-assoc, add-mul, mod-lt, div-eq-of-lt, div-eq-of-lt-le}
+use mathlib.Core.Logic.{_⊎_, ⊎-elim}
+use Prim.Native.Nat.{ℕ, _+_, _-_, _*_, _/_, _%_, _^_, _<_, _≤_}
+use native.Mathlib.Nat.{add-mul, mod-lt, div-eq-of-lt, div-eq-of-lt-le}
 use native.Mathlib.Omega.{arith}
 use lib.Arith.{digits-lt}
 use lib.Bits.{bitAnd}
@@ -13,7 +13,7 @@ use Rattle.std.proofs.shelf.Tests.{cases-lt, le-leb, lt-leb}
 use Rattle.std.proofs.shelf.Ways.{tells}
 use Rattle.word.specs.declared.fields.Field.{Field}
 use Rattle.word.specs.Bits.{bit, bits-at}
-use Rattle.word.specs.Parts.{Inside, Stored, Taken, takes-sign, filled, read, stored, field}
+use Rattle.word.specs.Parts.{Inside, Stored-bits, Read-bits, takes-sign, filled, read, stored, field}
 use Rattle.word.specs.Sums.{negative}
 use Rattle.word.proofs.Bitwise.{above-all, even, high-end, low-end, of-low, of-high, ones-bit}
 
@@ -76,12 +76,12 @@ module _ (s n w v : ℕ) where
       ap (λ y. y % 2 ^ n) (high (w / 2 ^ s / 2 ^ n * 2 ^ n + v % 2 ^ n) s (mod-lt w (pow-pos s)))
       ∙ low (w / 2 ^ s / 2 ^ n) n (mod-lt v (pow-pos n))
 
-pub stored-bits : (f : Field) (w v : ℕ) → Stored f w v (stored f w v)
-stored-bits f w v =
+pub store-leaves : (f : Field) (w v : ℕ) → Stored-bits f w v (stored f w v)
+store-leaves f w v =
     let s = f .start in
     let n = f .width in
     let e = put-in s n w v in
-    subst (Stored f w v) (sym e) (record {
+    subst (Stored-bits f w v) (sym e) (record {
       inside = moved s n w v;
       outside = λ i o. kept s n w v i 1 o;
       reads-back = ap (filled f) (found s n w v);
@@ -132,8 +132,8 @@ fill-bit : (t n : Bool) (x : ℕ) → cond {A = ℕ} n 1 0 ≡ x → cond {A = �
 fill-bit true n x e = e
 fill-bit false n x e = refl
 
-pub taken-bits : (f : Field) (w : ℕ) → Inside f → Taken f w (read f w)
-taken-bits f w h =
+pub read-gives : (f : Field) (w : ℕ) → Inside f → Read-bits f w (read f w)
+read-gives f w h =
     let s = f .start in
     let n = f .width in
     let v = bits-at s n w in

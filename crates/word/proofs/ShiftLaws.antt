@@ -3,17 +3,17 @@ use mathlib.Core.Path.{_≡_, refl, sym, ap, subst, _∙_}
 use mathlib.Core.Bool.{Bool, true, false, cond}
 use mathlib.Core.Logic.{_⊎_, inl, inr, ⊎-elim}
 use Prim.Native.Nat.{ℕ, suc, _+_, _-_, _*_, _/_, _%_, _^_, _<_, _≤_, min}
-use native.Mathlib.Nat.{add-comm, mul-comm, mod-lt, mod-eq-of-lt, div-eq-of-lt, mul-mod-left, mul-assoc, zero-div, add-zero, pow-suc, div-eq-of-lt-le}
+use native.Mathlib.Nat.{add-comm, mod-lt, div-eq-of-lt, mul-mod-left, mul-assoc, zero-div, add-zero, pow-suc, div-eq-of-lt-le}
 use native.Mathlib.Omega.{arith}
 use lib.Arith.{digits-lt, mod-mul}
 use lib.Bits.{bitAnd}
 use lib.Count.{leadingZeros, leading-le, leading-length, leading-unique}
-use lib.Pow.{pow-pos, pow-add, pow-mono, shr-lt, shl-shr, split, high, mod-mod-pow, high-ones, ones-lt, shr-le}
+use lib.Pow.{pow-pos, pow-add, pow-mono, shr-lt, shl-shr, mod-mod-pow, high-ones, ones-lt, shr-le}
 use Rattle.std.proofs.shelf.Bits.{and-mask}
 use Rattle.std.proofs.shelf.Tests.{cases-lt, cond-both}
 use Rattle.std.proofs.shelf.Ways.{tells}
-use Rattle.word.specs.Bits.{bit, bits-at}
-use Rattle.word.specs.Shifts.{turned, left-circular, right-circular, left-logical, right-logical, right-algebraic, Left-circular, Right-circular, Left-logical, Right-logical, Right-algebraic, turns, Turned, Unlike}
+use Rattle.word.specs.Bits.{bit}
+use Rattle.word.specs.Shifts.{turned, left-circular, right-circular, left-logical, right-logical, right-algebraic, Left-circular-bits, Right-circular-bits, Left-logical-bits, Right-logical-bits, Right-algebraic-bits, turn-count, Least-turn, Unlike}
 use Rattle.word.specs.Sums.{modulus, negative, magnitude}
 use Rattle.word.proofs.Bitwise.{low-end, high-end, of-low, of-high, above-all, behind, complement-high, complement-bit, ones-bit}
 
@@ -57,18 +57,18 @@ module _ (p w : ℕ) (places : p ≤ 36) (word : w < 2 ^ 36) where
       ∙ high-end (i - (36 - p)) 1 (36 - p) w ∙ ap (λ j. bit j w) b)
       (cases-lt (i + p) 36)
 
-pub left-circular-bits : (n w : ℕ) → w < 2 ^ 36 → Left-circular n w (left-circular n w)
-left-circular-bits n w h i lt =
+pub left-circular-moves : (n w : ℕ) → w < 2 ^ 36 → Left-circular-bits n w (left-circular n w)
+left-circular-moves n w h i lt =
     let e : (i + n) % 36 ≡ (i + n % 36) % 36 = omega arith in
     ap (λ j. bit j (left-circular n w)) e ∙ turned-bits (n % 36) w (omega arith) h i lt
 
-pub right-circular-bits : (n w : ℕ) → w < 2 ^ 36 → Right-circular n w (right-circular n w)
-right-circular-bits n w h i lt =
+pub right-circular-moves : (n w : ℕ) → w < 2 ^ 36 → Right-circular-bits n w (right-circular n w)
+right-circular-moves n w h i lt =
     let e : i ≡ ((i + n) % 36 + (36 - n % 36)) % 36 = omega arith in
     ap (λ j. bit j (right-circular n w)) e ∙ turned-bits (36 - n % 36) w (omega arith) h ((i + n) % 36) (omega arith)
 
-pub right-logical-bits : (n w : ℕ) → Right-logical n w (right-logical n w)
-right-logical-bits n w i = high-end i 1 n w ∙ ap (λ j. bit j w) (add-comm n i)
+pub right-logical-moves : (n w : ℕ) → Right-logical-bits n w (right-logical n w)
+right-logical-moves n w i = high-end i 1 n w ∙ ap (λ j. bit j w) (add-comm n i)
 
 -- a word shifted by 36 places or more is gone
 pub gone : (n w : ℕ) → w < 2 ^ 36 → w / 2 ^ min n 36 ≡ w / 2 ^ n
@@ -91,8 +91,8 @@ gone-left n w =
     ∙ sym (ap (λ k. w * 2 ^ k % 2 ^ 36) d ∙ ap (λ y. w * y % 2 ^ 36) (pow-add 2 (n - 36) 36) ∙ ap (λ y. y % 2 ^ 36) (sym (mul-assoc w (2 ^ (n - 36)) (2 ^ 36))) ∙ mul-mod-left (w * 2 ^ (n - 36)) (2 ^ 36)))
     (cases-lt n 36)
 
-pub left-logical-bits : (n w : ℕ) → Left-logical n w (left-logical n w)
-left-logical-bits n w = record {
+pub left-logical-moves : (n w : ℕ) → Left-logical-bits n w (left-logical n w)
+left-logical-moves n w = record {
   moved = λ i h. low-end (i + n) 1 36 (w * 2 ^ n) (omega arith) ∙ ap (λ j. bit j (w * 2 ^ n)) (add-comm i n) ∙ sym (high-end i 1 n (w * 2 ^ n)) ∙ ap (bit i) (shl-shr w n);
   zeros = λ i h. ⊎-elim
       (λ (lt : i < 36). low-end i 1 36 (w * 2 ^ n) (omega arith) ∙ behind i n w h)
@@ -147,12 +147,12 @@ module _ (n w : ℕ) (word : w < 2 ^ 36) where
       λ b. elim b as (λ t. cond t (2 ^ 36 - 1) 0 - cond t (2 ^ 36 - 1) 0 / 2 ^ p ≡ cond t (2 ^ 36 - 2 ^ (36 - n)) 0) [ true ↦ sign-fill p (omega arith) ∙ sym (ap (λ k. 2 ^ 36 - 2 ^ k) f) | false ↦ omega arith ] in
       ap (λ x. x - x / 2 ^ p + w / 2 ^ p) is ∙ (λ i. filled (negative 36 w) i + gone n w word i)
 
-  pub right-algebraic-bits : Right-algebraic n w (right-algebraic n w)
-  right-algebraic-bits i h =
+  pub right-algebraic-moves : Right-algebraic-bits n w (right-algebraic n w)
+  right-algebraic-moves i h =
       ⊎-elim
       (λ s.
       let r : right-algebraic n w ≡ w / 2 ^ n = ap (λ b. cond b (2 ^ 36 - 2 ^ (36 - n)) 0 + w / 2 ^ n) (s .1) ∙ omega arith in
-      ap (bit i) r ∙ right-logical-bits n w i ∙ ⊎-elim
+      ap (bit i) r ∙ right-logical-moves n w i ∙ ⊎-elim
       (λ (lt : i + n < 36). let e : i + n ≡ min (i + n) 35 = omega arith in ap (λ j. bit j w) e)
       (λ (le : 36 ≤ i + n). let e : 35 ≡ min (i + n) 35 = omega arith in above-all (i + n) 36 w word le ∙ sym (s .2) ∙ ap (λ j. bit j w) e)
       (cases-lt (i + n) 36))
@@ -212,15 +212,15 @@ module _ (w : ℕ) (word : w < 2 ^ 36) where
   first : (k : ℕ) → k ≤ 35 → bit 35 (left-circular k w) ≡ bit (35 - k) w
   first k h =
       let e : 35 ≡ (35 - k + k) % 36 = omega arith in
-      ap (λ j. bit j (left-circular k w)) e ∙ left-circular-bits k w word (35 - k) (omega arith)
+      ap (λ j. bit j (left-circular k w)) e ∙ left-circular-moves k w word (35 - k) (omega arith)
 
   second : (k : ℕ) → k ≤ 34 → bit 34 (left-circular k w) ≡ bit (34 - k) w
   second k h =
       let e : 34 ≡ (34 - k + k) % 36 = omega arith in
-      ap (λ j. bit j (left-circular k w)) e ∙ left-circular-bits k w word (34 - k) (omega arith)
+      ap (λ j. bit j (left-circular k w)) e ∙ left-circular-moves k w word (34 - k) (omega arith)
 
-  module _ (m : ℕ) (bits : turns w + m ≡ 35) (fits : magnitude 36 w < 2 ^ m) (takes : 2 ^ m ≤ 2 * magnitude 36 w + 1) where
-    least : (k : ℕ) → k < turns w → bit 35 (left-circular k w) ≡ bit 34 (left-circular k w)
+  module _ (m : ℕ) (bits : turn-count w + m ≡ 35) (fits : magnitude 36 w < 2 ^ m) (takes : 2 ^ m ≤ 2 * magnitude 36 w + 1) where
+    least : (k : ℕ) → k < turn-count w → bit 35 (left-circular k w) ≡ bit 34 (left-circular k w)
     least k h =
         first k (omega arith) ∙ like (35 - k) (omega arith) (above-all (35 - k) m _ fits (omega arith))
         ∙ sym (second k (omega arith) ∙ like (34 - k) (omega arith) (above-all (34 - k) m _ fits (omega arith)))
@@ -230,33 +230,33 @@ module _ (w : ℕ) (word : w < 2 ^ 36) where
         let z : magnitude 36 w ≡ 0 = omega (arith, subst (λ k. magnitude 36 w < 2 ^ k) e fits) in
         ⊎-elim (λ s. inl (s .0 ∙ z)) (λ s. inr (s .0 ∙ ap (λ x. 2 ^ 36 - 1 - x) z)) (by-magnitude w word)
 
-    two-differ : 0 < m → Unlike (left-circular (turns w) w)
+    two-differ : 0 < m → Unlike (left-circular (turn-count w) w)
     two-differ h same =
-        let n = turns w in
+        let n = turn-count w in
         let e : m ≡ suc (34 - n) = omega arith in
         let a : bit 35 w ≡ bit (35 - n) w = sym (like (35 - n) (omega arith) (above-all (35 - n) m _ fits (omega arith))) in
         unlike (34 - n) (omega arith) (leading-one m _ fits takes (34 - n) e)
         (a ∙ sym (first n (omega arith)) ∙ same ∙ second n (omega arith))
 
-    turned-is : Turned w (left-circular (turns w) w) (turns w)
+    turned-is : Least-turn w (left-circular (turn-count w) w) (turn-count w)
     turned-is = record {
       turn = refl;
       least = least;
       ends = ⊎-elim (λ (lt : 0 < m). inl (two-differ lt)) (λ (le : m ≤ 0). inr (omega arith, all-alike (omega arith))) (cases-lt 0 m);
     }
 
-  pub turned-right : Turned w (left-circular (turns w) w) (turns w)
-  turned-right = let t = leading-length 35 (magnitude 36 w) small in turned-is (t .0) (t .1) (t .2) (t .3)
+  pub least-turn : Least-turn w (left-circular (turn-count w) w) (turn-count w)
+  least-turn = let t = leading-length 35 (magnitude 36 w) small in turned-is (t .0) (t .1) (t .2) (t .3)
 
   -- as the code counts, among 64 bits
-  pub counted : leadingZeros 64 (magnitude 36 w) ≡ turns w + 29
+  pub counted : leadingZeros 64 (magnitude 36 w) ≡ turn-count w + 29
   counted =
       let t = leading-length 35 (magnitude 36 w) small in
-      sym (leading-unique 64 (magnitude 36 w) (turns w + 29) (t .0) (omega (arith, t .1)) (t .2) (t .3))
+      sym (leading-unique 64 (magnitude 36 w) (turn-count w + 29) (t .0) (omega (arith, t .1)) (t .2) (t .3))
 
   -- a turn by the count is the circular shift by it
-  pub turn-whole : turned (turns w) w ≡ left-circular (turns w) w
+  pub turn-whole : turned (turn-count w) w ≡ left-circular (turn-count w) w
   turn-whole =
-      let few : turns w ≤ 35 = leading-le 35 (magnitude 36 w) in
-      let same : turns w ≡ turns w % 36 = omega arith in
+      let few : turn-count w ≤ 35 = leading-le 35 (magnitude 36 w) in
+      let same : turn-count w ≡ turn-count w % 36 = omega arith in
       ap (λ p. turned p w) same

@@ -1,28 +1,22 @@
 -- The laws of sums at every width. Assumes nothing.
-use mathlib.Core.Path.{_≡_, refl, sym, ap, subst, _∙_}
+use mathlib.Core.Path.{_≡_, sym, ap, _∙_}
 use mathlib.Core.Bool.{Bool, true, false, cond, not, _&&_}
-use mathlib.Core.Logic.{_⊎_, inl, inr, ⊎-elim}
-use Prim.Native.Nat.{ℕ, suc, _+_, _-_, _*_, _^_, _<_, _≤_, _%_}
-use native.Mathlib.Nat.{pow-suc, mod-eq-sub-mod}
+use mathlib.Core.Logic.{_⊎_, ⊎-elim}
+use Prim.Native.Nat.{ℕ, _+_, _-_, _^_, _<_, _≤_, _%_}
+use native.Mathlib.Nat.{mod-eq-sub-mod}
 use native.Mathlib.Omega.{arith}
 use lib.Pow.{pow-pos}
 use lib.Dec.{leb}
 use lib.IntN.{ℤ, pos, negℤ, _+ℤ_}
 use Rattle.std.specs.Orderings.{When}
-use lib.Signed.{_<ℤ_}
 use Rattle.std.proofs.shelf.Signed.{ints}
 use Rattle.std.proofs.shelf.Ways.{tells, when-true, when-false}
-use Rattle.word.specs.Sums.{same, modulus, sum, complement, negative, magnitude, carries, overflows, value, greater}
+use Rattle.word.specs.Sums.{same, modulus, sum, negative, overflows, value}
+use Rattle.word.proofs.Bitwise.{even}
 use Rattle.word.specs.SumLaws.{Addition, Complements, Values, Order, Sum-laws}
 
--- a width of at least 1 has a sign and the bits below it
-doubled : (n : ℕ) → 0 < n → 2 ^ n ≡ 2 ^ (n - 1) + 2 ^ (n - 1)
-doubled n h =
-    let e : n ≡ suc (n - 1) = omega arith in
-    ap (λ k. 2 ^ k) e ∙ pow-suc 2 (n - 1) ∙ omega arith
-
 -- a sum is the plain one, or the plain one less the modulus
-plain-or-less : (m a b : ℕ) → ((a + b < m) × (sum m a b ≡ a + b)) ⊎ ((m ≤ a + b) × (sum m a b ≡ a + b - m))
+pub plain-or-less : (m a b : ℕ) → ((a + b < m) × (sum m a b ≡ a + b)) ⊎ ((m ≤ a + b) × (sum m a b ≡ a + b - m))
 plain-or-less m a b = grind (arith, tells)
 
 congruent : (m a b : ℕ) → sum m a b % m ≡ (a + b) % m
@@ -49,7 +43,7 @@ added false false false h m a b s hx hy hz e ha hb k = grind (arith, ints)
 module _ (n : ℕ) (wide : 0 < n) where
   addition : Addition n (modulus n)
   addition =
-      let e = doubled n wide in
+      let e = even n wide in
       let p = pow-pos (n - 1) in
       record {
         stays-a-word = λ a b ha hb. grind (arith, tells);
@@ -62,7 +56,7 @@ module _ (n : ℕ) (wide : 0 < n) where
 
   complements : Complements n (modulus n)
   complements =
-      let e = doubled n wide in
+      let e = even n wide in
       let p = pow-pos (n - 1) in
       record {
         stays-a-word = λ a. omega arith;
@@ -78,7 +72,7 @@ module _ (n : ℕ) (wide : 0 < n) where
       let h = 2 ^ (n - 1) in
       let m = modulus n in
       let s = sum m a b in
-      let e = doubled n wide in
+      let e = even n wide in
       let p = pow-pos (n - 1) in
       added (negative n a) (negative n b) (negative n s) h m a b s (sign-told h a) (sign-told h b) (sign-told h s) (omega arith) (omega arith) (omega arith) (plain-or-less m a b)
 
@@ -90,7 +84,7 @@ module _ (n : ℕ) (wide : 0 < n) where
 
   order : Order n (modulus n)
   order =
-      let e = doubled n wide in
+      let e = even n wide in
       let p = pow-pos (n - 1) in
       record {
         irreflexive = λ a. grind (arith, tells);

@@ -1,6 +1,6 @@
 -- The table of fields agrees with the rule at each of its entries, by one test that antt computes over the whole table. Assumes nothing.
-use mathlib.Core.Path.{_≡_, refl, sym, ap, subst, _∙_}
-use mathlib.Core.Bool.{Bool, true, false, _&&_}
+use mathlib.Core.Path.{_≡_, refl, sym, ap, _∙_}
+use mathlib.Core.Bool.{true, false, _&&_}
 use mathlib.Core.List.{List, [], _∷_}
 use Prim.Native.Nat.{ℕ, zero, suc, _+_, _<_}
 use native.Mathlib.Nat.{add-zero, zero-add, add-suc, suc-add, le-of-suc-le-suc, not-suc-le-zero}
@@ -10,7 +10,8 @@ use Rattle.std.proofs.shelf.Tests.{and-parts, eqb-true, false≢true}
 use Rattle.word.specs.declared.fields.Field.{Field}
 use Rattle.word.specs.declared.fields.Fill.{Fill}
 use Rattle.word.specs.declared.fields.Fill.the-variants.{Zeros, Sign}
-use Rattle.word.specs.Parts.{field, same-fill, same-field, agrees}
+use Rattle.word.specs.Parts.{field}
+use Rattle.word.specs.Table.{same-fill, same-field, agrees}
 
 fills-equal : (f g : Fill) → same-fill f g ≡ true → f ≡ g
 fills-equal Zeros Zeros t = refl

@@ -3,6 +3,7 @@
 --   word-digits w   the twelve digits of a word
 --   is-octal b      whether the byte b is an octal digit
 --   front bs        how many octal digits bs begins with
+--   number-after n bs   the number that n, followed by the octal digits bs, writes
 --   number bs       the number that the octal digits bs write, the highest first
 --   reading bs      what bs reads as: the number of a word, or why it is none
 --   number-of r     the same result, with the number in place of the word
@@ -35,7 +36,6 @@ is-octal b = leb 48 b && leb b 55
 abbrev pub front : List ℕ → ℕ
 front bs = leading is-octal bs
 
--- the number that n followed by the digits bs writes
 abbrev pub number-after : ℕ → List ℕ → ℕ
 number-after n [] = n
 number-after n (b ∷ bs) = number-after (n * 8 + (b - 48)) bs

@@ -6,3 +6,4 @@ pub mod Parts
 pub mod Shifts
 pub mod SumLaws
 pub mod Sums
+pub mod Table

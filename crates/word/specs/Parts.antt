@@ -1,14 +1,18 @@
 -- Partial words: which bits the selector j takes, what fills the rest, and what a store leaves.
---   field j       start, width and fill of the field that j selects
---   filled f v    the number v of a field as a whole word
---   read f w      the field f of the word w, filled
---   stored f w v  w with the lowest bits of v in the field f
+--   field j               start, width and fill of the field that j selects
+--   Inside f              the field f has at least one bit and lies in a word
+--   takes-sign            whether a fill is by the field's own sign
+--   filled f v            the number v of the field f as a whole word
+--   read f w              the field f of the word w, filled
+--   stored f w v          w with the lowest bits of v in the field f
+--   Apart s n f           the n bits from bit s up share none with the field f
+--   Read-bits f w r       r is the field f of w, bit by bit: its own bits, and above them what fills
+--   Stored-bits f w v r   r is w with v stored in the field f: bit by bit, read back, and read elsewhere
 use mathlib.Core.Path.{_≡_}
 use mathlib.Core.Bool.{Bool, true, false, cond, _&&_}
-use mathlib.Core.List.{List, [], _∷_}
 use mathlib.Core.Logic.{_⊎_}
-use Prim.Native.Nat.{ℕ, suc, _+_, _-_, _*_, _/_, _%_, _^_, _<_, _≤_}
-use lib.Dec.{eqb, leb}
+use Prim.Native.Nat.{ℕ, _+_, _-_, _*_, _%_, _^_, _<_, _≤_}
+use lib.Dec.{leb}
 use Rattle.word.specs.declared.fields.Field.{Field}
 use Rattle.word.specs.declared.fields.Fill.{Fill}
 use Rattle.word.specs.declared.fields.Fill.the-variants.{Zeros, Sign}
@@ -25,25 +29,9 @@ field j =
     (cond (leb 1 j) (record { start = 18 * (j - 1); width = 18; fill = Zeros })
     (record { start = 0; width = 36; fill = Zeros }))))
 
--- a field of at least one bit that lies in a word
 pub record Inside (f : Field) : Type 0 where
   pub some : 0 < f .width
   pub within : f .start + f .width ≤ 36
-
-abbrev pub same-fill : Fill → Fill → Bool
-same-fill Zeros Zeros = true
-same-fill Zeros Sign = false
-same-fill Sign Zeros = false
-same-fill Sign Sign = true
-
--- a row of the table has the start, the width and the fill of a field
-abbrev pub same-field : ℕ × ℕ × Fill → Field → Bool
-same-field row f = eqb (row .0) (f .start) && (eqb (row .1) (f .width) && same-fill (row .2) (f .fill))
-
--- each row of the table, counted from j, has the field that j selects
-abbrev pub agrees : ℕ → List (ℕ × ℕ × Fill) → Bool
-agrees j [] = true
-agrees j (row ∷ rows) = same-field row (field j) && agrees (suc j) rows
 
 abbrev pub takes-sign : Fill → Bool
 takes-sign Zeros = false
@@ -58,17 +46,14 @@ read f w = filled f (bits-at (f .start) (f .width) w)
 abbrev pub stored : Field → ℕ → ℕ → ℕ
 stored f w v = w - bits-at (f .start) (f .width) w * 2 ^ f .start + v % 2 ^ f .width * 2 ^ f .start
 
--- n bits from bit s up share none with the field f
 abbrev pub Apart : ℕ → ℕ → Field → Type 0
 Apart s n f = (s + n ≤ f .start) ⊎ (f .start + f .width ≤ s)
 
--- what reading gives: the field's bits, and above them what fills the word
-pub record Taken (f : Field) (w r : ℕ) : Type 0 where
+pub record Read-bits (f : Field) (w r : ℕ) : Type 0 where
   pub inside : (i : ℕ) → i < f .width → bit i r ≡ bit (f .start + i) w
   pub above : (i : ℕ) → f .width ≤ i → i < 36 → bit i r ≡ cond (takes-sign (f .fill)) (bit (f .start + (f .width - 1)) w) 0
 
--- what a store leaves, bit by bit and field by field
-pub record Stored (f : Field) (w v r : ℕ) : Type 0 where
+pub record Stored-bits (f : Field) (w v r : ℕ) : Type 0 where
   pub inside : (i : ℕ) → i < f .width → bit (f .start + i) r ≡ bit i v
   pub outside : (i : ℕ) → Apart i 1 f → bit i r ≡ bit i w
   pub reads-back : read f r ≡ filled f (v % 2 ^ f .width)

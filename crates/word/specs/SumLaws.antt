@@ -1,12 +1,16 @@
--- What holds of the sums, signs, values and order of numbers of n bits. `Sum-laws n` is one statement at one width.
---   m stands for the modulus 2^n - 1, which is -0.
+-- What holds of the sums, signs, values and order of numbers of n bits, with m the modulus 2^n - 1, which is -0.
+--   Addition     sums stay in n bits, commute, associate, are congruent to the plain sum, and are -0 only of two -0
+--   Complements  a complement has n bits and the other sign, adds up to +0, and is undone by another; a magnitude has no sign
+--   Values       signed values add up where there is no overflow, and stray where there is
+--   Order        of two numbers one is greater; +0 is greater than -0; but for that pair the order is that of the signed values
+--   Sum-laws n   all of these at the width n
 use mathlib.Core.Path.{_≡_}
-use mathlib.Core.Bool.{Bool, true, false, not}
+use mathlib.Core.Bool.{true, false, not}
 use mathlib.Core.Logic.{_⊎_}
-use Prim.Native.Nat.{ℕ, _+_, _-_, _^_, _<_, _%_}
+use Prim.Native.Nat.{ℕ, _+_, _^_, _<_, _%_}
 use lib.IntN.{ℤ, _+ℤ_}
 use lib.Signed.{_<ℤ_}
-use Rattle.word.specs.Sums.{modulus, sum, complement, negative, magnitude, carries, overflows, value, greater}
+use Rattle.word.specs.Sums.{modulus, sum, complement, negative, magnitude, overflows, value, greater}
 
 pub record Addition (n m : ℕ) : Type 0 where
   pub stays-a-word : (a b : ℕ) → a < 2 ^ n → b < 2 ^ n → sum m a b < 2 ^ n

@@ -1,17 +1,18 @@
 -- Sums in ones' complement of numbers of n bits, and what stands beside them.
---   modulus n       2^n - 1, which is also -0, the word of n ones
---   sum m a b       the sum under the modulus m
---   complement m a  each bit the other way
---   negative n a    the sign, the leftmost of n bits
---   magnitude n a   the complement where the sign stands, else the number
---   carries, overflows   the two designators of a sum
---   value n a       the signed value, 0 for both zeros
---   greater n a b   the order of the machine
-use mathlib.Core.Path.{_≡_}
+--   modulus n        2^n - 1, which is also -0, the number of n ones
+--   sum m a b        the sum under the modulus m
+--   complement m a   each bit the other way
+--   negative n a     whether the sign, the leftmost of n bits, stands
+--   magnitude n a    the complement where the sign stands, else the number
+--   carries m a b    the carry of a sum
+--   same             whether two signs are the same
+--   overflows n a b  the overflow of a sum: both operands share a sign that the sum lacks
+--   value n a        the signed value, 0 for both zeros
+--   greater n a b    a stands above b: without a sign above with it, else by the number
 use mathlib.Core.Bool.{Bool, true, false, cond, not, _&&_}
-use Prim.Native.Nat.{ℕ, _+_, _-_, _^_, _<_, _≤_, _%_}
+use Prim.Native.Nat.{ℕ, _+_, _-_, _^_}
 use lib.Dec.{leb, ltb}
-use lib.IntN.{ℤ, pos, negℤ, _+ℤ_}
+use lib.IntN.{ℤ, pos, negℤ}
 
 abbrev pub modulus : ℕ → ℕ
 modulus n = 2 ^ n - 1
@@ -35,7 +36,6 @@ abbrev pub same : Bool → Bool → Bool
 same true b = b
 same false b = not b
 
--- both operands share a sign that the sum lacks
 abbrev pub overflows : ℕ → ℕ → ℕ → Bool
 overflows n a b = same (negative n a) (negative n b) && not (same (negative n a) (negative n (sum (modulus n) a b)))
 

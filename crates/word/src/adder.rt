@@ -3,7 +3,7 @@ ghost use Prim.Native.Nat.{ℕ, _<_, _≤_};
 ghost use mathlib.Core.Logic.{_⊎_};
 ghost use mathlib.Core.Path.{_≡_};
 ghost use Rattle.std.specs.Options.{Cases};
-ghost use Rattle.word.specs.Adding.{adding};
+ghost use Rattle.word.specs.Adding.{adder-reply};
 ghost use Rattle.word.specs.SumLaws.{Sum-laws};
 use crate::sums::Sum;
 use crate::sums::add_at_width;
@@ -30,7 +30,7 @@ impl Adder {
 
     /// The sum of two numbers of the adder's width, or nothing where one of them has more bits.
     pub fn add(self, a: u64, b: u64) -> Option<Sum<u64>>
-        ensures reply { λ r. ⌜ r ≡ adding (self .width) a b ⌝ }
+        ensures reply { λ r. ⌜ r ≡ adder-reply (self .width) a b ⌝ }
         ensures laws { λ _. ⌜ ((n : ℕ) → 0 < n → Sum-laws n) ⌝ }
     {
         let limit = 1 << self.width;

@@ -58,7 +58,7 @@ fn number_written(text: &[u8]) -> u64
 impl Word {
     /// The twelve octal digits of the word, as bytes of text.
     pub fn digits(self) -> [u8; WORD_DIGITS]
-        ensures digits { λ r. ⌜ r ≡ word-digits (self .bits) ⌝ }
+        ensures value { λ r. ⌜ r ≡ word-digits (self .bits) ⌝ }
         ensures back { λ r. ⌜ reading r ≡ Ok (self .bits) ⌝ }
     {
         let mut text = [b'0'; WORD_DIGITS];

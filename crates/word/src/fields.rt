@@ -4,7 +4,8 @@ ghost use lib.ListN.{length};
 ghost use mathlib.Core.Bool.{true, _&&_};
 ghost use mathlib.Core.Path.{_≡_};
 ghost use Rattle.word.specs.Bits.{bits-at};
-ghost use Rattle.word.specs.Parts.{agrees, field, filled, stored, takes-sign, Inside};
+ghost use Rattle.word.specs.Table.{agrees};
+ghost use Rattle.word.specs.Parts.{field, filled, stored, takes-sign, Inside};
 ghost use Rattle.word.specs.Sums.{negative};
 use crate::words::ONES;
 use crate::words::Word;
@@ -25,7 +26,7 @@ pub(crate) struct Field {
 }
 
 /// Start, width and fill of each field, by its selector.
-const FIELDS: [(u32, u32, Fill); 14] = [
+const FIELDS: [(u32, u32, Fill); 0o16] = [
     (0, 36, Fill::Zeros),
     (0, 18, Fill::Zeros),
     (18, 18, Fill::Zeros),
@@ -42,16 +43,16 @@ const FIELDS: [(u32, u32, Fill); 14] = [
     (30, 6, Fill::Zeros),
 ];
 
-fn table() -> &'static [(u32, u32, Fill); 14]
+fn table() -> &'static [(u32, u32, Fill); 0o16]
     ensures rule { λ r. ⌜ agrees 0 (now r) ≡ true ⌝ }
-    ensures len { λ r. ⌜ length (now r) ≡ 14 ⌝ }
+    ensures len { λ r. ⌜ length (now r) ≡ 0o16 ⌝ }
 {
     &FIELDS
 }
 
 /// The field that the selector j names.
 pub(crate) fn field_at(j: u32) -> Field
-    requires { ⌜ j < 14 ⌝ }
+    requires { ⌜ j < 0o16 ⌝ }
     ensures { λ r. ⌜ r ≡ field j ⌝ }
 {
     let (start, width, fill) = table()[j as usize];

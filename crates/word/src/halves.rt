@@ -3,6 +3,9 @@ ghost use Prim.Native.Nat.{_^_, _<_, _≤_, _%_};
 ghost use mathlib.Core.Path.{_≡_};
 ghost use Rattle.std.specs.Options.{Cases};
 
+/// How many bits half a word has.
+pub(crate) const HALF_BITS: u32 = 18;
+
 /// Half a word, 18 bits; an address is one.
 #[derive(Clone, Copy, PartialEq, Eq, Debug)]
 pub struct Half {
@@ -15,7 +18,7 @@ impl Half {
     pub fn new(number: u32) -> Option<Half>
         ensures { λ r. ⌜ Cases r (2 ^ 18 ≤ number) (λ h. h .bits ≡ number) ⌝ }
     {
-        if number < 1 << 18 {
+        if number < 1 << HALF_BITS {
             Some(Half { bits: number })
         } else {
             None
@@ -27,7 +30,7 @@ impl Half {
         ensures { λ r. ⌜ r .bits ≡ number % 2 ^ 18 ⌝ }
     {
         Half {
-            bits: (number % (1 << 18)) as u32,
+            bits: (number % (1 << HALF_BITS)) as u32,
         }
     }
 

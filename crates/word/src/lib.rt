@@ -1,4 +1,8 @@
-// Words of 36 bits in ones' complement, as the 1108 computes with them.
+// Words of 36 bits in ones' complement, as the 1108 computes with them: sums, partial words, shifts and octal digits.
+//
+// Read `words` and `halves` first (the types `Word` and `Half`), then `sums` and `adder` (`Sum`, `Adder`), `logic`,
+// `fields` and `parts` (`Part`), `shifts` (`Count`, `Counted`), `digits` (`DigitsError`) and `figures` (`worked_figures`).
+// The library allocates nothing, keeps no state, and asks nothing of its caller beyond the types.
 mod adder;
 mod digits;
 mod fields;
@@ -12,7 +16,9 @@ mod words;
 
 pub use adder::Adder;
 pub use digits::DigitsError;
+pub use digits::DigitsErrorDebug;
 pub use digits::DigitsErrorDisplay;
+pub use digits::DigitsErrorPartialEq;
 pub use digits::WORD_DIGITS;
 pub use digits::WordDisplay;
 pub use figures::Figures;

@@ -3,15 +3,20 @@ ghost use Prim.Native.Nat.{_<_, _≤_, _%_, _+_, _-_};
 ghost use mathlib.Core.Bool.{cond};
 ghost use mathlib.Core.Path.{_≡_};
 ghost use Rattle.std.specs.Options.{Cases};
-ghost use Rattle.word.specs.Shifts.{turned, right-circular, left-circular, right-logical, left-logical, right-algebraic, Right-circular, Left-circular, Right-logical, Left-logical, Right-algebraic, turns, Turned};
+ghost use Rattle.word.specs.Shifts.{turned, right-circular, left-circular, right-logical, left-logical, right-algebraic, Right-circular-bits, Left-circular-bits, Right-logical-bits, Left-logical-bits, Right-algebraic-bits, turn-count, Least-turn};
 ghost use Rattle.word.specs.Sums.{modulus, negative};
 use crate::words::ONES;
+use crate::words::WORD_BITS;
 use crate::words::Word;
-use crate::words::WordDebug;
-use crate::words::WordPartialEq;
+
+/// The largest count of places: twice round a word.
+const MOST_PLACES: u32 = 2 * WORD_BITS;
+
+/// How many bits of 64 stand above a magnitude, which has one bit less than a word.
+const ABOVE_MAGNITUDE: u32 = 64 - (WORD_BITS - 1);
 
 /// How many places a shift moves the bits, 0 to 72.
-#[derive(Clone, Copy, PartialEq, Eq, Debug)]
+#[derive(Clone, Copy)]
 pub struct Count {
     pub(crate) places: u32,
     ghost few: { places ≤ 72 },
@@ -22,7 +27,7 @@ impl Count {
     pub fn new(places: u32) -> Option<Count>
         ensures { λ r. ⌜ Cases r (72 < places) (λ c. c .places ≡ places) ⌝ }
     {
-        if places <= 72 {
+        if places <= MOST_PLACES {
             Some(Count { places })
         } else {
             None
@@ -31,7 +36,7 @@ impl Count {
 }
 
 /// A word that was turned, and by how many places.
-#[derive(Clone, Copy, PartialEq, Eq, Debug)]
+#[derive(Clone, Copy)]
 pub struct Counted {
     pub word: Word,
     pub count: u32,
@@ -40,46 +45,46 @@ pub struct Counted {
 impl Word {
     /// The bits move right, and those that leave come in at the left.
     pub fn right_circular(self, count: Count) -> Word
-        ensures number { λ r. ⌜ r .bits ≡ right-circular (count .places) (self .bits) ⌝ }
-        ensures bits { λ r. ⌜ Right-circular (count .places) (self .bits) (r .bits) ⌝ }
+        ensures value { λ r. ⌜ r .bits ≡ right-circular (count .places) (self .bits) ⌝ }
+        ensures bits { λ r. ⌜ Right-circular-bits (count .places) (self .bits) (r .bits) ⌝ }
     {
-        self.turned_left(36 - count.places % 36)
+        self.turned_left(WORD_BITS - count.places % WORD_BITS)
     }
 
     /// The bits move left, and those that leave come in at the right.
     pub fn left_circular(self, count: Count) -> Word
-        ensures number { λ r. ⌜ r .bits ≡ left-circular (count .places) (self .bits) ⌝ }
-        ensures bits { λ r. ⌜ Left-circular (count .places) (self .bits) (r .bits) ⌝ }
+        ensures value { λ r. ⌜ r .bits ≡ left-circular (count .places) (self .bits) ⌝ }
+        ensures bits { λ r. ⌜ Left-circular-bits (count .places) (self .bits) (r .bits) ⌝ }
     {
-        self.turned_left(count.places % 36)
+        self.turned_left(count.places % WORD_BITS)
     }
 
     /// The bits move right, and zeros come in at the left.
     pub fn right_logical(self, count: Count) -> Word
-        ensures number { λ r. ⌜ r .bits ≡ right-logical (count .places) (self .bits) ⌝ }
-        ensures bits { λ r. ⌜ Right-logical (count .places) (self .bits) (r .bits) ⌝ }
+        ensures value { λ r. ⌜ r .bits ≡ right-logical (count .places) (self .bits) ⌝ }
+        ensures bits { λ r. ⌜ Right-logical-bits (count .places) (self .bits) (r .bits) ⌝ }
     {
         Word {
-            bits: self.bits >> count.places.min(36),
+            bits: self.bits >> count.places.min(WORD_BITS),
         }
     }
 
     /// The bits move left, and zeros come in at the right.
     pub fn left_logical(self, count: Count) -> Word
-        ensures number { λ r. ⌜ r .bits ≡ left-logical (count .places) (self .bits) ⌝ }
-        ensures bits { λ r. ⌜ Left-logical (count .places) (self .bits) (r .bits) ⌝ }
+        ensures value { λ r. ⌜ r .bits ≡ left-logical (count .places) (self .bits) ⌝ }
+        ensures bits { λ r. ⌜ Left-logical-bits (count .places) (self .bits) (r .bits) ⌝ }
     {
         Word {
-            bits: (self.bits << count.places.min(36)) & ONES,
+            bits: (self.bits << count.places.min(WORD_BITS)) & ONES,
         }
     }
 
     /// The bits move right, and bits like the sign come in at the left.
     pub fn right_algebraic(self, count: Count) -> Word
-        ensures number { λ r. ⌜ r .bits ≡ right-algebraic (count .places) (self .bits) ⌝ }
-        ensures bits { λ r. ⌜ Right-algebraic (count .places) (self .bits) (r .bits) ⌝ }
+        ensures value { λ r. ⌜ r .bits ≡ right-algebraic (count .places) (self .bits) ⌝ }
+        ensures bits { λ r. ⌜ Right-algebraic-bits (count .places) (self .bits) (r .bits) ⌝ }
     {
-        let places = count.places.min(36);
+        let places = count.places.min(WORD_BITS);
         let signs = self.signs();
         Word {
             bits: (signs - (signs >> places)) + (self.bits >> places),
@@ -88,11 +93,11 @@ impl Word {
 
     /// The word turned left until its two leftmost bits differ, and by how many places: 35 where all bits are alike.
     pub fn shift_and_count(self) -> Counted
-        ensures word { λ r. ⌜ r .word .bits ≡ left-circular (turns (self .bits)) (self .bits) ⌝ }
-        ensures count { λ r. ⌜ r .count ≡ turns (self .bits) ⌝ }
-        ensures meaning { λ r. ⌜ Turned (self .bits) (r .word .bits) (r .count) ⌝ }
+        ensures word { λ r. ⌜ r .word .bits ≡ left-circular (turn-count (self .bits)) (self .bits) ⌝ }
+        ensures count { λ r. ⌜ r .count ≡ turn-count (self .bits) ⌝ }
+        ensures meaning { λ r. ⌜ Least-turn (self .bits) (r .word .bits) (r .count) ⌝ }
     {
-        let count = self.magnitude().bits.leading_zeros() - 29;
+        let count = self.magnitude().bits.leading_zeros() - ABOVE_MAGNITUDE;
         Counted {
             word: self.turned_left(count),
             count,
@@ -111,7 +116,7 @@ impl Word {
         ensures { λ r. ⌜ r .bits ≡ turned places (self .bits) ⌝ }
     {
         Word {
-            bits: ((self.bits << places) & ONES) + (self.bits >> (36 - places)),
+            bits: ((self.bits << places) & ONES) + (self.bits >> (WORD_BITS - places)),
         }
     }
 }

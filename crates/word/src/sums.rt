@@ -1,14 +1,16 @@
 // Sums in ones' complement, at any width.
 ghost use Prim.Native.Nat.{_^_, _<_};
 ghost use mathlib.Core.Path.{_≡_};
-ghost use Rattle.word.specs.Adding.{added};
+ghost use Rattle.word.specs.Adding.{full-sum};
 ghost use Rattle.word.specs.Sums.{modulus, sum, complement, negative, magnitude, carries, overflows, value, greater};
+use crate::halves::HALF_BITS;
 use crate::halves::Half;
 use crate::words::ONES;
+use crate::words::WORD_BITS;
 use crate::words::Word;
 
 /// A sum, with the two designators that it sets.
-#[derive(Clone, Copy, Drop, PartialEq, Eq, Debug)]
+#[derive(Clone, Copy)]
 pub struct Sum<N> {
     pub total: N,
     pub carry: bool,
@@ -18,7 +20,7 @@ pub struct Sum<N> {
 /// The sum of two numbers of a width, in ones' complement: the one adder behind every sum.
 pub(crate) fn add_at_width(width: u32, a: u64, b: u64) -> Sum<u64>
     requires { ⌜ 0 < width ⌝ ∗ ⌜ width < 64 ⌝ ∗ ⌜ a < 2 ^ width ⌝ ∗ ⌜ b < 2 ^ width ⌝ }
-    ensures { λ r. ⌜ r ≡ added width a b ⌝ }
+    ensures { λ r. ⌜ r ≡ full-sum width a b ⌝ }
 {
     let modulus = (1u64 << width) - 1;
     let sign = 1u64 << (width - 1);
@@ -40,7 +42,7 @@ impl Word {
         ensures carry { λ r. ⌜ r .carry ≡ carries (modulus 36) (self .bits) (other .bits) ⌝ }
         ensures overflow { λ r. ⌜ r .overflow ≡ overflows 36 (self .bits) (other .bits) ⌝ }
     {
-        let sum = add_at_width(36, self.bits, other.bits);
+        let sum = add_at_width(WORD_BITS, self.bits, other.bits);
         Sum {
             total: Word { bits: sum.total },
             carry: sum.carry,
@@ -61,7 +63,7 @@ impl Word {
     pub fn is_negative(self) -> bool
         ensures { λ r. ⌜ r ≡ negative 36 (self .bits) ⌝ }
     {
-        self.bits >= 1 << 35
+        self.bits >= 1 << (WORD_BITS - 1)
     }
 
     /// The complement where the sign stands, else the word.
@@ -99,11 +101,11 @@ impl Word {
 }
 
 impl Half {
-    /// The sum of two halves, as addresses are added.
+    /// The sum of two halves, as addresses are full-sum.
     pub fn plus(self, other: Half) -> Half
         ensures { λ r. ⌜ r .bits ≡ sum (modulus 18) (self .bits) (other .bits) ⌝ }
     {
-        let sum = add_at_width(18, self.bits as u64, other.bits as u64);
+        let sum = add_at_width(HALF_BITS, self.bits as u64, other.bits as u64);
         Half {
             bits: sum.total as u32,
         }

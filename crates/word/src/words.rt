@@ -3,8 +3,11 @@ ghost use Prim.Native.Nat.{_^_, _<_, _≤_, _%_};
 ghost use mathlib.Core.Path.{_≡_};
 ghost use Rattle.std.specs.Options.{Cases};
 
-/// The number of 36 ones, which is -0.
-pub(crate) const ONES: u64 = (1 << 36) - 1;
+/// How many bits a word has.
+pub(crate) const WORD_BITS: u32 = 36;
+
+/// The number of a word of ones, which is -0.
+pub(crate) const ONES: u64 = (1 << WORD_BITS) - 1;
 
 /// A word of 36 bits.
 #[derive(Clone, Copy, PartialEq, Eq, Debug)]
@@ -18,7 +21,7 @@ impl Word {
     pub fn new(number: u64) -> Option<Word>
         ensures { λ r. ⌜ Cases r (2 ^ 36 ≤ number) (λ w. w .bits ≡ number) ⌝ }
     {
-        if number < 1 << 36 {
+        if number <= ONES {
             Some(Word { bits: number })
         } else {
             None
@@ -30,7 +33,7 @@ impl Word {
         ensures { λ r. ⌜ r .bits ≡ number % 2 ^ 36 ⌝ }
     {
         Word {
-            bits: number % (1 << 36),
+            bits: number % (1 << WORD_BITS),
         }
     }
 

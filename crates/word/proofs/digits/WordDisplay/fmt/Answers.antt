@@ -4,4 +4,4 @@ use Rattle.word.proofs.Octal.{utf8-word}
 use Rattle.word.proofs.digits.WordDisplay.fmt.Needs as need
 
 pub unreachable-requires : need.unreachable-requires
-unreachable-requires g c κs = c .in-Err .ensures tt .cases .0 (subst Utf8 (sym (c .digits-digits .ensures .digits)) (utf8-word (c .args .self .now .bits)))
+unreachable-requires g c κs = c .in-Err .ensures tt .cases .0 (subst Utf8 (sym (c .digits-digits .ensures .value)) (utf8-word (c .args .self .now .bits)))

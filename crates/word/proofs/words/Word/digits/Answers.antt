@@ -19,4 +19,4 @@ returns c =
     let v = c .loop-place .inv in
     let z : c .loop-place .place ≡ 0 = omega arith in
     let d : c .loop-place .text ≡ word-digits (c .args .self .bits) = sym (ap (λ p. drop p (c .loop-place .text)) z) ∙ v .2 ∙ ap (λ p. octal (12 - p) (c .args .self .bits)) z in
-    record { digits = d; back = ap reading d ∙ reading-back (c .args .self .bits) (c .args .self .fits) }
+    record { value = d; back = ap reading d ∙ reading-back (c .args .self .bits) (c .args .self .fits) }

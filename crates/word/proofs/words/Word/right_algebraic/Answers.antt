@@ -1,7 +1,7 @@
 use mathlib.Core.Path.{_≡_, sym, ap, subst, _∙_}
-use Prim.Native.Nat.{_+_, _-_, _/_, _^_, _<_, min}
-use Rattle.word.specs.Shifts.{Right-algebraic, right-algebraic}
-use Rattle.word.proofs.ShiftLaws.{by-signs, right-algebraic-bits, right-algebraic-fits}
+use Prim.Native.Nat.{_+_, _-_, _/_, _^_, _<_}
+use Rattle.word.specs.Shifts.{Right-algebraic-bits, right-algebraic}
+use Rattle.word.proofs.ShiftLaws.{by-signs, right-algebraic-moves, right-algebraic-fits}
 use Rattle.word.proofs.words.Word.right_algebraic.Needs as need
 use Rattle.word.proofs.words.Word.right_algebraic.Needs.{After-signs-signs}
 
@@ -19,4 +19,4 @@ returns c =
     let w = c .args .self .bits in
     let n = c .args .count .places in
     let e = computed (need.at·returns c .After-signs-signs) in
-    record { number = e; bits = subst (Right-algebraic n w) (sym e) (right-algebraic-bits n w (c .args .self .fits)) }
+    record { value = e; bits = subst (Right-algebraic-bits n w) (sym e) (right-algebraic-moves n w (c .args .self .fits)) }

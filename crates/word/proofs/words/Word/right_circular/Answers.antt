@@ -1,6 +1,6 @@
 use mathlib.Core.Path.{sym, subst}
-use Rattle.word.specs.Shifts.{Right-circular}
-use Rattle.word.proofs.ShiftLaws.{right-circular-bits}
+use Rattle.word.specs.Shifts.{Right-circular-bits}
+use Rattle.word.proofs.ShiftLaws.{right-circular-moves}
 use Rattle.word.proofs.words.Word.right_circular.Needs as need
 
 pub returns : need.returns
@@ -8,4 +8,4 @@ returns c =
     let w = c .args .self .bits in
     let n = c .args .count .places in
     let e = c .turned-left .ensures in
-    record { number = e; bits = subst (Right-circular n w) (sym e) (right-circular-bits n w (c .args .self .fits)) }
+    record { value = e; bits = subst (Right-circular-bits n w) (sym e) (right-circular-moves n w (c .args .self .fits)) }

@@ -1,7 +1,7 @@
-use mathlib.Core.Path.{_≡_, sym, ap, subst, _∙_}
+use mathlib.Core.Path.{sym, ap, subst, _∙_}
 use Prim.Native.Nat.{_/_, _^_}
-use Rattle.word.specs.Shifts.{Right-logical}
-use Rattle.word.proofs.ShiftLaws.{gone, right-logical-bits}
+use Rattle.word.specs.Shifts.{Right-logical-bits}
+use Rattle.word.proofs.ShiftLaws.{gone, right-logical-moves}
 use Rattle.word.proofs.words.Word.right_logical.Needs as need
 
 pub returns : need.returns
@@ -9,4 +9,4 @@ returns c =
     let w = c .args .self .bits in
     let n = c .args .count .places in
     let e = ap (λ k. w / 2 ^ k) (c .min .ensures) ∙ gone n w (c .args .self .fits) in
-    record { number = e; bits = subst (Right-logical n w) (sym e) (right-logical-bits n w) }
+    record { value = e; bits = subst (Right-logical-bits n w) (sym e) (right-logical-moves n w) }

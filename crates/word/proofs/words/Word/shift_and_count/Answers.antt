@@ -1,15 +1,15 @@
 use mathlib.Core.Path.{_≡_, sym, ap, subst, _∙_}
-use Prim.Native.Nat.{_-_, _+_, _≤_}
+use Prim.Native.Nat.{_-_, _+_}
 use native.Mathlib.Omega.{arith}
 use lib.Count.{leadingZeros, leading-le}
-use Rattle.word.specs.Shifts.{Turned, turned, turns, left-circular}
+use Rattle.word.specs.Shifts.{Least-turn, turned, turn-count, left-circular}
 use Rattle.word.specs.Sums.{magnitude}
-use Rattle.word.proofs.ShiftLaws.{counted, turn-whole, turned-right}
+use Rattle.word.proofs.ShiftLaws.{counted, turn-whole, least-turn}
 use Rattle.word.proofs.words.Word.shift_and_count.Needs as need
 use Rattle.word.proofs.words.Word.shift_and_count.Needs.{After-magnitude}
 
--- the zeros that the code counts are 29 more than the turns
-zeros : (c : After-magnitude) → leadingZeros 64 (c .magnitude .result .bits) ≡ turns (c .args .self .bits) + 29
+-- the zeros that the code counts are 29 more than the turn-count
+zeros : (c : After-magnitude) → leadingZeros 64 (c .magnitude .result .bits) ≡ turn-count (c .args .self .bits) + 29
 zeros c = ap (leadingZeros 64) (c .magnitude .ensures) ∙ counted (c .args .self .bits) (c .args .self .fits)
 
 pub sub-count : need.sub-count
@@ -21,10 +21,10 @@ turned-left-requires c κs = omega (arith, zeros (need.at·turned-left-requires 
 pub returns : need.returns
 returns c =
     let w = c .args .self .bits in
-    let n : leadingZeros 64 (c .magnitude .result .bits) - 29 ≡ turns w = omega (arith, zeros (need.at·returns c .After-magnitude)) in
-    let e : c .turned-left .result .bits ≡ left-circular (turns w) w = c .turned-left .ensures ∙ ap (λ p. turned p w) n ∙ turn-whole w (c .args .self .fits) in
+    let n : leadingZeros 64 (c .magnitude .result .bits) - 29 ≡ turn-count w = omega (arith, zeros (need.at·returns c .After-magnitude)) in
+    let e : c .turned-left .result .bits ≡ left-circular (turn-count w) w = c .turned-left .ensures ∙ ap (λ p. turned p w) n ∙ turn-whole w (c .args .self .fits) in
     record {
       word = e;
       count = n;
-      meaning = subst (λ r. Turned w r (leadingZeros 64 (c .magnitude .result .bits) - 29)) (sym e) (subst (Turned w (left-circular (turns w) w)) (sym n) (turned-right w (c .args .self .fits)));
+      meaning = subst (λ r. Least-turn w r (leadingZeros 64 (c .magnitude .result .bits) - 29)) (sym e) (subst (Least-turn w (left-circular (turn-count w) w)) (sym n) (least-turn w (c .args .self .fits)));
     }

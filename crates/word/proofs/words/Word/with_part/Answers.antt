@@ -1,6 +1,6 @@
 use mathlib.Core.Path.{sym, ap, subst, _∙_}
-use Rattle.word.specs.Parts.{Stored, field, stored}
-use Rattle.word.proofs.FieldLaws.{stored-bits}
+use Rattle.word.specs.Parts.{Stored-bits, field, stored}
+use Rattle.word.proofs.FieldLaws.{store-leaves}
 use Rattle.word.proofs.words.Word.with_part.Needs as need
 
 pub returns : need.returns
@@ -9,4 +9,4 @@ returns c =
     let w = c .args .self .bits in
     let v = c .args .value .bits in
     let e = c .stored .ensures ∙ ap (λ g. stored g w v) (c .field-at .ensures) in
-    record { number = e; bits = subst (Stored f w v) (sym e) (stored-bits f w v) }
+    record { value = e; bits = subst (Stored-bits f w v) (sym e) (store-leaves f w v) }
