@@ -1,4 +1,4 @@
-// Every part of 765432101234o, read and stored: its digits show each field.
+// Every part of 765432101234o, read and stored. The expected values are read off the digits by the table of fields.
 use std::test::*;
 use word::Part;
 use word::Word;

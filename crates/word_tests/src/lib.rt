@@ -1,4 +1,6 @@
-// Worked examples of the machine beyond the proved figures, as tables that are run.
+// Cases that are run: the machine's printed examples beyond the proved figures, and others worked out by the rules.
+#[cfg(test)]
+mod digits;
 #[cfg(test)]
 mod fields;
 #[cfg(test)]

@@ -1,4 +1,5 @@
-// Shifts of 765432101234o and of the two zeros.
+// Shifts: the results for 765432101234o by 6 places, past the word and round it, and for the two zeros are the machine's
+// printed examples; the other turns are worked out by the rule.
 use std::test::*;
 use word::Count;
 use word::Word;
@@ -65,6 +66,8 @@ fn shift_and_count() -> Result<(), Fail> {
         (0o777777777777, 0o777777777777, 0o43),
         (1, 0o200000000000, 34),
         (0o777777777776, 0o577777777777, 34),
+        (5, 0o240000000000, 32),
+        (0o777777777772, 0o537777777777, 32),
     ];
     for (operand, word, places) in cases {
         let counted = Word::of_lowest(operand).shift_and_count();

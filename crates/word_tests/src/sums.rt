@@ -1,8 +1,10 @@
-// Sums, differences, signs, order and logic.
+// Sums, differences, signs, order and logic. The six-bit sums, the zeros, the address sums and the table of bits are the
+// machine's printed examples; the other sums are worked out by the rule, one for each combination of signs.
 use std::test::*;
 use word::Adder;
 use word::Half;
 use word::Word;
+use word::WordPartialEq;
 
 const MINUS_ZERO: u64 = 0o777777777777;
 
@@ -310,6 +312,8 @@ fn signs_and_order() -> Result<(), Fail> {
     let minus_zero = plus_zero.complement();
     check_eq(minus_zero.number(), MINUS_ZERO)?;
     check_eq(minus_zero.value(), 0)?;
+    check_eq(plus_zero.magnitude().complement().number(), MINUS_ZERO)?;
+    check(plus_zero != minus_zero)?;
     check(plus_zero.is_greater(minus_zero))?;
     check(!minus_zero.is_greater(plus_zero))?;
     check(five.is_greater(minus_five))?;
