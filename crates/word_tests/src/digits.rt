@@ -9,7 +9,12 @@ use word::WordDisplay;
 
 #[test]
 fn twelve_digits() -> Result<(), Fail> {
-    let texts = [b"000000000000", b"765432101234", b"400000000000", b"777777777777"];
+    let texts = [
+        b"000000000000",
+        b"765432101234",
+        b"400000000000",
+        b"777777777777",
+    ];
     let numbers = [0, 0o765432101234, 0o400000000000, 0o777777777777];
     for (text, number) in texts.iter().zip(numbers.iter()) {
         let Ok(word) = Word::from_digits(*text) else {

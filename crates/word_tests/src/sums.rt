@@ -8,70 +8,34 @@ use word::WordPartialEq;
 
 const MINUS_ZERO: u64 = 0o777777777777;
 
-#[derive(Clone, Copy)]
-struct Case {
-    name: &'static str,
-    a: u64,
-    b: u64,
-    total: u64,
-    carry: bool,
-    overflow: bool,
+fn check_designators(name: &'static str, carry: bool, overflow: bool) -> Result<(), Fail> {
+    check(carry).note("carry").note(name)?;
+    check(overflow).note("overflow").note(name)
 }
 
 #[test]
 fn six_bit_adder() -> Result<(), Fail> {
     let cases = [
-        Case {
-            name: "16 + 7",
-            a: 0b010000,
-            b: 0b000111,
-            total: 0b010111,
-            carry: false,
-            overflow: false,
-        },
-        Case {
-            name: "-1 + -1",
-            a: 0b111110,
-            b: 0b111110,
-            total: 0b111101,
-            carry: true,
-            overflow: false,
-        },
-        Case {
-            name: "-20 - -12",
-            a: 0b101011,
-            b: 0b001100,
-            total: 0b110111,
-            carry: false,
-            overflow: false,
-        },
-        Case {
-            name: "-1 - -6",
-            a: 0b111110,
-            b: 0b000110,
-            total: 0b000101,
-            carry: true,
-            overflow: false,
-        },
-        Case {
-            name: "a number and its complement",
-            a: 0b111000,
-            b: 0b000111,
-            total: 0,
-            carry: true,
-            overflow: false,
-        },
+        ("16 + 7", 0b010000, 0b000111, 0b010111, false, false),
+        ("-1 + -1", 0b111110, 0b111110, 0b111101, true, false),
+        ("-20 - -12", 0b101011, 0b001100, 0b110111, false, false),
+        ("-1 - -6", 0b111110, 0b000110, 0b000101, true, false),
+        (
+            "a number and its complement",
+            0b111000,
+            0b000111,
+            0,
+            true,
+            false,
+        ),
     ];
     let Some(adder) = Adder::new(6) else {
         return Err(Fail::new("no adder of six bits"));
     };
-    for case in cases {
-        let sum = adder
-            .add(case.a, case.b)
-            .ok_or("an operand of more than six bits")?;
-        check_eq(sum.total, case.total).note(case.name)?;
-        check_eq(sum.carry, case.carry).note(case.name)?;
-        check_eq(sum.overflow, case.overflow).note(case.name)?;
+    for (name, a, b, total, carry, overflow) in cases {
+        let sum = adder.add(a, b).ok_or("an operand of more than six bits")?;
+        check_eq(sum.total, total).note(name)?;
+        check_designators(name, sum.carry == carry, sum.overflow == overflow)?;
     }
     check(adder.add(0b1000000, 0).is_none())?;
     check(adder.add(0, 0b1000000).is_none())?;
@@ -79,120 +43,47 @@ fn six_bit_adder() -> Result<(), Fail> {
     check(Adder::new(64).is_none())
 }
 
-fn check_sum(name: &'static str, a: Word, b: Word, case: Case) -> Result<(), Fail> {
-    let sum = a.plus(b);
-    check_eq(sum.total.number(), case.total).note(name)?;
-    check_eq(sum.carry, case.carry).note(name)?;
-    check_eq(sum.overflow, case.overflow).note(name)
-}
-
 #[test]
 fn word_sums() -> Result<(), Fail> {
     let cases = [
-        Case {
-            name: "+0 + +0",
-            a: 0,
-            b: 0,
-            total: 0,
-            carry: false,
-            overflow: false,
-        },
-        Case {
-            name: "+0 + -0",
-            a: 0,
-            b: MINUS_ZERO,
-            total: 0,
-            carry: true,
-            overflow: false,
-        },
-        Case {
-            name: "-0 + +0",
-            a: MINUS_ZERO,
-            b: 0,
-            total: 0,
-            carry: true,
-            overflow: false,
-        },
-        Case {
-            name: "-0 + -0",
-            a: MINUS_ZERO,
-            b: MINUS_ZERO,
-            total: MINUS_ZERO,
-            carry: true,
-            overflow: false,
-        },
-        Case {
-            name: "greatest + 1",
-            a: 0o377777777777,
-            b: 1,
-            total: 0o400000000000,
-            carry: false,
-            overflow: true,
-        },
-        Case {
-            name: "least + -1",
-            a: 0o400000000000,
-            b: 0o777777777776,
-            total: 0o377777777777,
-            carry: true,
-            overflow: true,
-        },
-        Case {
-            name: "5 + -3",
-            a: 5,
-            b: 0o777777777774,
-            total: 2,
-            carry: true,
-            overflow: false,
-        },
-        Case {
-            name: "-3 + 5",
-            a: 0o777777777774,
-            b: 5,
-            total: 2,
-            carry: true,
-            overflow: false,
-        },
-        Case {
-            name: "3 + -5",
-            a: 3,
-            b: 0o777777777772,
-            total: 0o777777777775,
-            carry: false,
-            overflow: false,
-        },
-        Case {
-            name: "-3 + -5",
-            a: 0o777777777774,
-            b: 0o777777777772,
-            total: 0o777777777767,
-            carry: true,
-            overflow: false,
-        },
-        Case {
-            name: "1 less 1",
-            a: 1,
-            b: 0o777777777776,
-            total: 0,
-            carry: true,
-            overflow: false,
-        },
-        Case {
-            name: "+0 less 1",
-            a: 0,
-            b: 0o777777777776,
-            total: 0o777777777776,
-            carry: false,
-            overflow: false,
-        },
+        ("+0 + +0", 0, 0, 0, false, false),
+        ("+0 + -0", 0, MINUS_ZERO, 0, true, false),
+        ("-0 + +0", MINUS_ZERO, 0, 0, true, false),
+        ("-0 + -0", MINUS_ZERO, MINUS_ZERO, MINUS_ZERO, true, false),
+        (
+            "greatest + 1",
+            0o377777777777,
+            1,
+            0o400000000000,
+            false,
+            true,
+        ),
+        (
+            "least + -1",
+            0o400000000000,
+            0o777777777776,
+            0o377777777777,
+            true,
+            true,
+        ),
+        ("5 + -3", 5, 0o777777777774, 2, true, false),
+        ("-3 + 5", 0o777777777774, 5, 2, true, false),
+        ("3 + -5", 3, 0o777777777772, 0o777777777775, false, false),
+        (
+            "-3 + -5",
+            0o777777777774,
+            0o777777777772,
+            0o777777777767,
+            true,
+            false,
+        ),
+        ("1 less 1", 1, 0o777777777776, 0, true, false),
+        ("+0 less 1", 0, 0o777777777776, 0o777777777776, false, false),
     ];
-    for case in cases {
-        check_sum(
-            case.name,
-            Word::of_lowest(case.a),
-            Word::of_lowest(case.b),
-            case,
-        )?;
+    for (name, a, b, total, carry, overflow) in cases {
+        let sum = Word::of_lowest(a).plus(Word::of_lowest(b));
+        check_eq(sum.total.number(), total).note(name)?;
+        check_designators(name, sum.carry == carry, sum.overflow == overflow)?;
     }
     Ok(())
 }
@@ -200,86 +91,27 @@ fn word_sums() -> Result<(), Fail> {
 #[test]
 fn word_differences() -> Result<(), Fail> {
     let cases = [
-        Case {
-            name: "+0 - +0",
-            a: 0,
-            b: 0,
-            total: 0,
-            carry: true,
-            overflow: false,
-        },
-        Case {
-            name: "+0 - -0",
-            a: 0,
-            b: MINUS_ZERO,
-            total: 0,
-            carry: false,
-            overflow: false,
-        },
-        Case {
-            name: "-0 - +0",
-            a: MINUS_ZERO,
-            b: 0,
-            total: MINUS_ZERO,
-            carry: true,
-            overflow: false,
-        },
-        Case {
-            name: "-0 - -0",
-            a: MINUS_ZERO,
-            b: MINUS_ZERO,
-            total: 0,
-            carry: true,
-            overflow: false,
-        },
-        Case {
-            name: "greatest - -1",
-            a: 0o377777777777,
-            b: 0o777777777776,
-            total: 0o400000000000,
-            carry: false,
-            overflow: true,
-        },
-        Case {
-            name: "least - 1",
-            a: 0o400000000000,
-            b: 1,
-            total: 0o377777777777,
-            carry: true,
-            overflow: true,
-        },
-        Case {
-            name: "5 - 3",
-            a: 5,
-            b: 3,
-            total: 2,
-            carry: true,
-            overflow: false,
-        },
-        Case {
-            name: "-3 - -5",
-            a: 0o777777777774,
-            b: 0o777777777772,
-            total: 2,
-            carry: true,
-            overflow: false,
-        },
-        Case {
-            name: "-3 - 5",
-            a: 0o777777777774,
-            b: 5,
-            total: 0o777777777767,
-            carry: true,
-            overflow: false,
-        },
+        ("+0 - +0", 0, 0, 0, true, false),
+        ("+0 - -0", 0, MINUS_ZERO, 0, false, false),
+        ("-0 - +0", MINUS_ZERO, 0, MINUS_ZERO, true, false),
+        ("-0 - -0", MINUS_ZERO, MINUS_ZERO, 0, true, false),
+        (
+            "greatest - -1",
+            0o377777777777,
+            0o777777777776,
+            0o400000000000,
+            false,
+            true,
+        ),
+        ("least - 1", 0o400000000000, 1, 0o377777777777, true, true),
+        ("5 - 3", 5, 3, 2, true, false),
+        ("-3 - -5", 0o777777777774, 0o777777777772, 2, true, false),
+        ("-3 - 5", 0o777777777774, 5, 0o777777777767, true, false),
     ];
-    for case in cases {
-        check_sum(
-            case.name,
-            Word::of_lowest(case.a),
-            Word::of_lowest(case.b).complement(),
-            case,
-        )?;
+    for (name, a, b, total, carry, overflow) in cases {
+        let sum = Word::of_lowest(a).plus(Word::of_lowest(b).complement());
+        check_eq(sum.total.number(), total).note(name)?;
+        check_designators(name, sum.carry == carry, sum.overflow == overflow)?;
     }
     Ok(())
 }
