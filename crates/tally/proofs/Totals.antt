@@ -1,7 +1,7 @@
 -- The laws of the total of a column. Assumes nothing.
 use mathlib.Core.Path.{_≡_, refl, sym, ap, subst, _∙_}
 use mathlib.Core.List.{List, [], _∷_}
-use mathlib.Core.Logic.{_⊎_, ⊎-elim}
+use mathlib.Core.Logic.{⊎-elim}
 use Prim.Native.Nat.{ℕ, _+_, _-_, _^_, _<_, _≤_, _%_}
 use native.Mathlib.Nat.{mod-eq-of-lt, add-mod-right}
 use native.Mathlib.Omega.{arith}
@@ -9,23 +9,19 @@ use lib.IntN.{ℤ, pos, _+ℤ_}
 use Rattle.std.proofs.shelf.Signed.{ints}
 use Rattle.std.proofs.shelf.Sorted.{sumBy-shuffled, all-shuffled}
 use Rattle.std.proofs.shelf.Sums.{sumBy-cons}
-use Rattle.std.proofs.shelf.Ways.{tells}
 use Rattle.std.specs.Slices.{Shuffled}
 use Rattle.std.specs.shelf.Lists.{sumBy}
 use Rattle.word.specs.Sums.{modulus, sum, value}
-use Rattle.word.proofs.SumLaws.{sum-laws}
+use Rattle.word.proofs.SumLaws.{plain-or-less, sum-laws}
 use Rattle.tally.specs.Tally.{plus, total}
 use Rattle.tally.specs.TotalLaws.{plain, value-sum, Calm, Words, Total-laws}
-
-split : (m s w : ℕ) → ((s + w < m) × (sum m s w ≡ s + w)) ⊎ ((m ≤ s + w) × (sum m s w ≡ s + w - m))
-split m s w = grind (arith, tells)
 
 -- a register below the modulus stays below it, and what is added after it keeps its remainder
 pub step : (m s w p : ℕ) → s < m → w ≤ m → (sum m s w < m) × ((sum m s w + p) % m ≡ (s + (w + p)) % m)
 step m s w p h k = ⊎-elim
     (λ x. (subst (λ t. t < m) (sym (x .1)) (x .0), ap (λ t. (t + p) % m) (x .1) ∙ ap (λ t. t % m) {x = s + w + p} {y = s + (w + p)} (omega arith)))
     (λ x. (subst (λ t. t < m) (sym (x .1)) (omega (arith, x .0)), ap (λ t. (t + p) % m) (x .1) ∙ sym (add-mod-right (s + w - m + p) m) ∙ ap (λ t. t % m) {x = s + w - m + p + m} {y = s + (w + p)} (omega (arith, x .0))))
-    (split m s w)
+    (plain-or-less m s w)
 
 remains : (s : ℕ) (ws : List ℕ) → s < modulus 36 → Words ws → total s ws ≡ (s + plain ws) % modulus 36
 remains s [] h f = sym (ap (λ t. t % modulus 36) {x = s + 0} {y = s} (omega arith) ∙ mod-eq-of-lt h)

@@ -3,9 +3,8 @@
 --   plain ws         the sum of the words as numbers, without a bound
 --   value-sum ws     the sum of their signed values
 --   Calm s ws        no sum overflows as the words are added to the register s
---   Shuffled ws vs   vs has the words of ws in any order
--- The total is the remainder of the plain sum by the modulus. Where no sum overflows its signed value is the sum of the signed values.
--- And it does not depend on the order of the words.
+--   Total-laws       the total is the remainder of the plain sum by the modulus; where no sum overflows, its signed value
+--                    is the sum of the signed values; and it does not depend on the order of the words
 use mathlib.Core.Path.{_≡_}
 use mathlib.Core.Bool.{false}
 use mathlib.Core.List.{List, [], _∷_}

@@ -23,7 +23,7 @@ fn marked(flag: bool, text: &str) -> &str
 }
 
 // The line of a word, with the sum after it was added.
-fn row(heap: Global, word: Word, after: Sum<Word>) -> Result<String, AllocError>
+fn line_text(heap: Global, word: Word, after: Sum<Word>) -> Result<String, AllocError>
     ensures { λ r. ⌜ made r (λ s. string-bytes s ≡ line-text (word .bits) (after .total .bits) (after .carry) (after .overflow)) ⌝ }
 {
     let total = after.total;
@@ -33,7 +33,7 @@ fn row(heap: Global, word: Word, after: Sum<Word>) -> Result<String, AllocError>
 }
 
 // The three lines at the end.
-fn ending(heap: Global, count: usize, register: Word) -> Result<String, AllocError>
+fn closing(heap: Global, count: usize, register: Word) -> Result<String, AllocError>
     ensures { λ r. ⌜ made r (λ s. string-bytes s ≡ closing count (register .bits)) ⌝ }
 {
     let value = register.value();
@@ -48,10 +48,10 @@ fn statement(heap: Global, words: &[Word]) -> Result<String, AllocError>
     let mut register = Word::of_lowest(0);
     for word in words {
         let after = register.plus(*word);
-        out.push_str(row(heap, *word, after)?.as_str())?;
+        out.push_str(line_text(heap, *word, after)?.as_str())?;
         register = after.total;
     }
-    out.push_str(ending(heap, words.len(), register)?.as_str())?;
+    out.push_str(closing(heap, words.len(), register)?.as_str())?;
     Ok(out)
 }
 

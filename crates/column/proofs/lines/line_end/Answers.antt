@@ -1,3 +1,4 @@
+-- The search for a newline: one byte further on, and what is known at its end.
 use mathlib.Core.Path.{_≡_}
 use mathlib.Core.Bool.{Bool, true, false, not}
 use Prim.Native.Nat.{ℕ, _+_}

@@ -1,3 +1,4 @@
+-- What the search for a newline keeps.
 use Prim.Native.Nat.{_+_, _-_, _≤_}
 use mathlib.Core.Path.{_≡_}
 use lib.ListN.{length, drop}

@@ -1,3 +1,4 @@
+-- The report on an input: on its words, or on its first bad line.
 use mathlib.Core.Path.{_≡_}
 use Rattle.std.proofs.shelf.Results.{made-weaker}
 use Rattle.std.specs.Of.String.{string-bytes}

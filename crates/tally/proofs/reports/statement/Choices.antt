@@ -1,3 +1,4 @@
+-- What the writing of the rows keeps.
 use mathlib.Core.Path.{_≡_}
 use mathlib.Core.List.{_++_}
 use lib.ListN.{drop}

@@ -1,3 +1,4 @@
+-- The line of a word: the marks are those of the sum's designators.
 use mathlib.Core.Path.{_≡_, _∙_}
 use mathlib.Core.List.{List, [], _∷_, _++_}
 use Prim.Native.Nat.{ℕ}
@@ -7,7 +8,7 @@ use Rattle.std.specs.Of.String.{string-bytes}
 use Rattle.word.specs.Digits.{word-digits}
 use Rattle.column.specs.Column.{newline}
 use Rattle.tally.specs.Tally.{line-text}
-use Rattle.tally.proofs.reports.row.Needs as need
+use Rattle.tally.proofs.reports.line_text.Needs as need
 
 text : ℕ → ℕ → List ℕ → List ℕ → List ℕ
 text w t carry overflow = word-digits w ++ (codes " " ++ (word-digits t ++ (carry ++ (overflow ++ newline ∷ []))))
