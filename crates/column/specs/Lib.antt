@@ -1,1 +1,2 @@
+-- The files of definitions, to be read.
 pub mod Column

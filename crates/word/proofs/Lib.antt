@@ -1,3 +1,4 @@
+-- The files of lemmas.
 pub mod Bitwise
 pub mod FieldLaws
 pub mod Octal

@@ -1,3 +1,4 @@
+-- The files of definitions, to be read.
 pub mod Adding
 pub mod Bits
 pub mod Digits

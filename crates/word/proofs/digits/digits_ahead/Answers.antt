@@ -1,3 +1,4 @@
+-- `digits_ahead` meets its contract.
 use mathlib.Core.Path.{_≡_, sym}
 use native.Mathlib.Omega.{arith}
 use Prim.Native.Nat.{_+_}

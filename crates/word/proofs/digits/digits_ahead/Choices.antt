@@ -1,3 +1,4 @@
+-- What the loop of `digits_ahead` keeps true.
 use Prim.Native.Nat.{_+_}
 use mathlib.Core.Path.{_≡_}
 use lib.ListN.{drop}

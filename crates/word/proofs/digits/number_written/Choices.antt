@@ -1,3 +1,4 @@
+-- What the loop of `number_written` keeps true.
 use mathlib.Core.Path.{_≡_}
 use lib.ListN.{drop, length}
 use Rattle.word.specs.Digits.{front, number, number-after}

@@ -1,3 +1,4 @@
+-- `field_at` meets its contract.
 use native.Mathlib.Omega.{arith}
 use Rattle.word.proofs.Tables.{tabled}
 use Rattle.word.proofs.fields.field_at.Needs as need

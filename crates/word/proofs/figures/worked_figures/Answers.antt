@@ -1,3 +1,4 @@
+-- `worked_figures` meets its contract.
 use mathlib.Core.Path.{_≡_, refl, ap, _∙_}
 use Prim.Native.Nat.{ℕ}
 use lib.Count.{leadingZeros}

@@ -1,3 +1,4 @@
+-- `Adder::add` meets its contract.
 use borrow.Author.Needs.{needs}
 use Rattle.word.proofs.SumLaws.{sum-laws}
 use Rattle.word.proofs.adder.Adder.add.Needs as need

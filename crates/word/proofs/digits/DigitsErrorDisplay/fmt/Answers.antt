@@ -1,3 +1,4 @@
+-- `DigitsErrorDisplay::fmt` meets its contract.
 use mathlib.Core.Path.{sym, ap}
 use Rattle.std.proofs.Writes.{put-is}
 use Rattle.word.specs.Digits.{explanation}

@@ -1,3 +1,4 @@
+-- `WordDisplay::fmt` meets its contract.
 use mathlib.Core.Path.{sym, subst}
 use Rattle.std.specs.Text.{Utf8}
 use Rattle.word.proofs.Octal.{utf8-word}

@@ -1,3 +1,4 @@
+-- `Field::number` meets its contract.
 use mathlib.Core.Path.{ap, _∙_}
 use Prim.Native.Nat.{_/_, _^_}
 use lib.Bits.{bitAnd}

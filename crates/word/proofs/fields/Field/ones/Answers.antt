@@ -1,3 +1,4 @@
+-- `Field::ones` meets its contract.
 use native.Mathlib.Omega.{arith}
 use lib.Pow.{pow-pos, pow-mono}
 use Rattle.std.proofs.shelf.Bits.{one-shl}

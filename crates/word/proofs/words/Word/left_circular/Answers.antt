@@ -1,3 +1,4 @@
+-- `Word::left_circular` meets its contract.
 use mathlib.Core.Path.{sym, subst}
 use Rattle.word.specs.Shifts.{Left-circular-bits}
 use Rattle.word.proofs.ShiftLaws.{left-circular-moves}

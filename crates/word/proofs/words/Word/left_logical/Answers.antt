@@ -1,3 +1,4 @@
+-- `Word::left_logical` meets its contract.
 use mathlib.Core.Path.{sym, ap, subst, _∙_}
 use Prim.Native.Nat.{_*_, _%_, _^_}
 use lib.Pow.{mod-mod-pow}

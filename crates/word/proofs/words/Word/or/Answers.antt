@@ -1,3 +1,4 @@
+-- `Word::or` meets its contract.
 use borrow.Author.Needs.{needs}
 use Rattle.std.proofs.shelf.Bits.{or-lt}
 use Rattle.word.proofs.words.Word.or.Needs as need

@@ -1,3 +1,4 @@
+-- `Word::part` meets its contract.
 use mathlib.Core.Path.{sym, ap, subst, _∙_}
 use Rattle.word.specs.Bits.{bits-at}
 use Rattle.word.specs.Parts.{Read-bits, field, filled}

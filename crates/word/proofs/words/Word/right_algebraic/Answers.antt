@@ -1,3 +1,4 @@
+-- `Word::right_algebraic` meets its contract.
 use mathlib.Core.Path.{_≡_, sym, ap, subst, _∙_}
 use Prim.Native.Nat.{_+_, _-_, _/_, _^_, _<_}
 use Rattle.word.specs.Shifts.{Right-algebraic-bits, right-algebraic}

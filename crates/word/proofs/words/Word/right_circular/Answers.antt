@@ -1,3 +1,4 @@
+-- `Word::right_circular` meets its contract.
 use mathlib.Core.Path.{sym, subst}
 use Rattle.word.specs.Shifts.{Right-circular-bits}
 use Rattle.word.proofs.ShiftLaws.{right-circular-moves}

@@ -1,3 +1,4 @@
+-- `Word::right_logical` meets its contract.
 use mathlib.Core.Path.{sym, ap, subst, _∙_}
 use Prim.Native.Nat.{_/_, _^_}
 use Rattle.word.specs.Shifts.{Right-logical-bits}

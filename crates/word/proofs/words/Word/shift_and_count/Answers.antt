@@ -1,3 +1,4 @@
+-- `Word::shift_and_count` meets its contract.
 use mathlib.Core.Path.{_≡_, sym, ap, subst, _∙_}
 use Prim.Native.Nat.{_-_, _+_}
 use native.Mathlib.Omega.{arith}

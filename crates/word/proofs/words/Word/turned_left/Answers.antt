@@ -1,3 +1,4 @@
+-- `Word::turned_left` meets its contract.
 use mathlib.Core.Path.{sym, ap, subst}
 use Prim.Native.Nat.{_+_, _/_, _^_, _-_, _<_}
 use Rattle.word.proofs.ShiftLaws.{turned-fits, turned-by-mask}

@@ -1,3 +1,4 @@
+-- `Word::with_part` meets its contract.
 use mathlib.Core.Path.{sym, ap, subst, _∙_}
 use Rattle.word.specs.Parts.{Stored-bits, field, stored}
 use Rattle.word.proofs.FieldLaws.{store-leaves}
