@@ -1,9 +1,9 @@
 -- Bits of parts of a number: of its low end, of its high end, of two ends put together. Assumes nothing.
 use mathlib.Core.Path.{_≡_, sym, ap, subst, _∙_}
-use Prim.Native.Nat.{ℕ, suc, _+_, _-_, _*_, _/_, _%_, _^_, _<_, _≤_}
-use native.Mathlib.Nat.{zero-div, mod-lt, div-eq-of-lt, pow-suc, mul-mod-left, mul-assoc, add-mul, sub-zero}
+use Prim.Native.Nat.{ℕ, zero, suc, _+_, _-_, _*_, _/_, _%_, _^_, _<_, _≤_}
+use native.Mathlib.Nat.{zero-div, mod-lt, div-eq-of-lt, pow-suc, mul-mod-left, mul-assoc, add-mul, sub-zero, mod-eq-of-lt}
 use native.Mathlib.Omega.{arith}
-use lib.Pow.{pow-pos, pow-add, pow-mono, shr-shr, shl-shr, shr-lt, split, high, low, field, mod-mod-pow}
+use lib.Pow.{pow-pos, pow-add, pow-mono, shr-shr, shl-shr, shr-lt, split, high, low, field, mod-mod-pow, mod-pow-add}
 use Rattle.word.specs.Bits.{bit, bits-at}
 
 -- bits of the k lowest bits are bits of the number
@@ -66,3 +66,15 @@ pub ones-bit : (p i : ℕ) → i < p → bit i (2 ^ p - 1) ≡ 1
 ones-bit p i h =
     ap (bit i) (sym (sub-zero (2 ^ p - 1))) ∙ complement-bit p i 0 h (pow-pos p)
     ∙ ap (λ x. 1 - x % 2) (zero-div (2 ^ i))
+
+-- numbers with the same k lowest bits have the same remainder
+same-low : (k a b : ℕ) → ((i : ℕ) → i < k → bit i a ≡ bit i b) → a % 2 ^ k ≡ b % 2 ^ k
+same-low zero a b h = omega arith
+same-low (suc k) a b h =
+    let e : 1 + k ≡ suc k = omega arith in
+    let split-off : (x : ℕ) → x % 2 ^ suc k ≡ bit k x * 2 ^ k + x % 2 ^ k = λ x. subst (λ j. x % 2 ^ j ≡ bit k x * 2 ^ k + x % 2 ^ k) e (mod-pow-add x 1 k) in
+    split-off a ∙ (λ i. h k (omega arith) i * 2 ^ k + same-low k a b (λ j lt. h j (omega arith)) i) ∙ sym (split-off b)
+
+-- the bits say which number it is
+pub same-bits : (k a b : ℕ) → a < 2 ^ k → b < 2 ^ k → ((i : ℕ) → i < k → bit i a ≡ bit i b) → a ≡ b
+same-bits k a b fa fb h = sym (mod-eq-of-lt fa) ∙ same-low k a b h ∙ mod-eq-of-lt fb

@@ -15,7 +15,7 @@ use Rattle.std.proofs.shelf.Ways.{tells}
 use Rattle.word.specs.Bits.{bit}
 use Rattle.word.specs.Shifts.{turned, left-circular, right-circular, left-logical, right-logical, right-algebraic, Left-circular-bits, Right-circular-bits, Left-logical-bits, Right-logical-bits, Right-algebraic-bits, turn-count, Least-turn, Unlike}
 use Rattle.word.specs.Sums.{modulus, negative, magnitude}
-use Rattle.word.proofs.Bitwise.{low-end, high-end, of-low, of-high, above-all, behind, complement-high, complement-bit, ones-bit}
+use Rattle.word.proofs.Bitwise.{low-end, high-end, of-low, of-high, above-all, behind, complement-high, complement-bit, ones-bit, same-bits}
 
 -- the lower q bits moved up by p, at p + q places
 moved-up : (p q w : ℕ) → w * 2 ^ p % 2 ^ (q + p) ≡ w % 2 ^ q * 2 ^ p
@@ -66,6 +66,23 @@ pub right-circular-moves : (n w : ℕ) → w < 2 ^ 36 → Right-circular-bits n 
 right-circular-moves n w h i lt =
     let e : i ≡ ((i + n) % 36 + (36 - n % 36)) % 36 = omega arith in
     ap (λ j. bit j (right-circular n w)) e ∙ turned-bits (36 - n % 36) w (omega arith) h ((i + n) % 36) (omega arith)
+
+-- a turn back undoes a turn
+pub left-undone : (n w : ℕ) → w < 2 ^ 36 → right-circular n (left-circular n w) ≡ w
+left-undone n w h =
+    let t = turned-fits (n % 36) w (omega arith) h in
+    same-bits 36 (right-circular n (left-circular n w)) w (turned-fits (36 - n % 36) (left-circular n w) (omega arith) t) h
+    (λ i lt. right-circular-moves n (left-circular n w) t i lt ∙ left-circular-moves n w h i lt)
+
+pub right-undone : (n w : ℕ) → w < 2 ^ 36 → left-circular n (right-circular n w) ≡ w
+right-undone n w h =
+    let t = turned-fits (36 - n % 36) w (omega arith) h in
+    same-bits 36 (left-circular n (right-circular n w)) w (turned-fits (n % 36) (right-circular n w) (omega arith) t) h
+    (λ i lt.
+    let j = (i + (36 - n % 36)) % 36 in
+    let e : i ≡ (j + n) % 36 = omega arith in
+    ap (λ k. bit k (left-circular n (right-circular n w))) e ∙ left-circular-moves n (right-circular n w) t j (omega arith)
+    ∙ right-circular-moves n w h j (omega arith) ∙ ap (λ k. bit k w) (sym e))
 
 pub right-logical-moves : (n w : ℕ) → Right-logical-bits n w (right-logical n w)
 right-logical-moves n w i = high-end i 1 n w ∙ ap (λ j. bit j w) (add-comm n i)

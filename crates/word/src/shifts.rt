@@ -47,6 +47,7 @@ impl Word {
     pub fn right_circular(self, count: Count) -> Word
         ensures value { λ r. ⌜ r .bits ≡ right-circular (count .places) (self .bits) ⌝ }
         ensures bits { λ r. ⌜ Right-circular-bits (count .places) (self .bits) (r .bits) ⌝ }
+        ensures back { λ r. ⌜ left-circular (count .places) (r .bits) ≡ self .bits ⌝ }
     {
         self.turned_left(WORD_BITS - count.places % WORD_BITS)
     }
@@ -55,6 +56,7 @@ impl Word {
     pub fn left_circular(self, count: Count) -> Word
         ensures value { λ r. ⌜ r .bits ≡ left-circular (count .places) (self .bits) ⌝ }
         ensures bits { λ r. ⌜ Left-circular-bits (count .places) (self .bits) (r .bits) ⌝ }
+        ensures back { λ r. ⌜ right-circular (count .places) (r .bits) ≡ self .bits ⌝ }
     {
         self.turned_left(count.places % WORD_BITS)
     }
