@@ -31,8 +31,12 @@ returns c = record {
   unlike-zeros =
       let s = c .plus-5 .ensures in
       (summed (c .plus-5 .result) _ _ _ _ (s .total) (s .carry) (s .overflow) (c .of-lowest-minus-zero .ensures) (c .of-lowest-6 .ensures), refl);
-  right-six-circular = (c .right-circular .ensures .value ∙ ap (right-circular 6) (c .of-lowest-shifted .ensures), refl);
-  right-six-algebraic = (c .right-algebraic .ensures .value ∙ ap (right-algebraic 6) (c .of-lowest-shifted .ensures), refl);
+  right-six-circular =
+      let shifted : c .right-circular .result .bits ≡ right-circular 6 (c .of-lowest-shifted .result .bits) = c .right-circular .ensures .value in
+      (shifted ∙ ap (right-circular 6) (c .of-lowest-shifted .ensures), refl);
+  right-six-algebraic =
+      let shifted : c .right-algebraic .result .bits ≡ right-algebraic 6 (c .of-lowest-shifted .result .bits) = c .right-algebraic .ensures .value in
+      (shifted ∙ ap (right-algebraic 6) (c .of-lowest-shifted .ensures), refl);
   one-turned = (c .shift-and-count .ensures .word ∙ ap (λ w. left-circular (turn-count w) w) (c .of-lowest-one .ensures), refl);
   one-count = (c .shift-and-count .ensures .count ∙ ap turn-count (c .of-lowest-one .ensures), refl);
   upper-third = (c .part .ensures .value ∙ ap (read (field 7)) (c .of-lowest-7 .ensures), refl);

@@ -1,6 +1,6 @@
 -- `Word::left_logical` meets its contract.
-use mathlib.Core.Path.{sym, ap, subst, _∙_}
-use Prim.Native.Nat.{_*_, _%_, _^_}
+use mathlib.Core.Path.{_≡_, sym, ap, subst, _∙_}
+use Prim.Native.Nat.{_*_, _%_, _^_, min}
 use lib.Pow.{mod-mod-pow}
 use Rattle.std.proofs.shelf.Bits.{and-mask}
 use Rattle.word.specs.Shifts.{Left-logical-bits}
@@ -12,5 +12,6 @@ returns c =
     let w = c .args .self .bits in
     let n = c .args .count .places in
     let p = c .min .result in
-    let e = and-mask (w * 2 ^ p % 2 ^ 64) 36 ∙ mod-mod-pow (w * 2 ^ p) 28 36 ∙ ap (λ k. w * 2 ^ k % 2 ^ 36) (c .min .ensures) ∙ gone-left n w in
+    let stops : p ≡ min n 36 = c .min .ensures in
+    let e = and-mask (w * 2 ^ p % 2 ^ 64) 36 ∙ mod-mod-pow (w * 2 ^ p) 28 36 ∙ ap (λ k. w * 2 ^ k % 2 ^ 36) stops ∙ gone-left n w in
     record { value = e; bits = subst (Left-logical-bits n w) (sym e) (left-logical-moves n w) }

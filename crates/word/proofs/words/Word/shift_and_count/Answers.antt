@@ -23,7 +23,8 @@ pub returns : need.returns
 returns c =
     let w = c .args .self .bits in
     let n : leadingZeros 64 (c .magnitude .result .bits) - 29 ≡ turn-count w = omega (arith, zeros (need.at·returns c .After-magnitude)) in
-    let e : c .turned-left .result .bits ≡ left-circular (turn-count w) w = c .turned-left .ensures ∙ ap (λ p. turned p w) n ∙ turn-whole w (c .args .self .fits) in
+    let turn : c .turned-left .result .bits ≡ turned (leadingZeros 64 (c .magnitude .result .bits) - 29) w = c .turned-left .ensures in
+    let e : c .turned-left .result .bits ≡ left-circular (turn-count w) w = turn ∙ ap (λ p. turned p w) n ∙ turn-whole w (c .args .self .fits) in
     record {
       word = e;
       count = n;
