@@ -3,6 +3,8 @@
 // Read `words` and `halves` first (the types `Word` and `Half`), then `sums` and `adder` (`Sum`, `Adder`), `logic`,
 // `fields` and `parts` (`Part`), `shifts` (`Count`, `Counted`), `digits` (`DigitsError`) and `figures` (`worked_figures`).
 // The library allocates nothing, keeps no state, and asks nothing of its caller beyond the types.
+#![tactic(auto)]
+
 mod adder;
 mod digits;
 mod fields;
