@@ -11,13 +11,13 @@ returns-in-Some c =
     let x = c.in-Some.ensures in
     record { reply = x; back = back c.args.text.now (Err (BadLine c.in-Some.line)) x }
 
-pub returns-in-ok-words-of : goal.returns-in-ok-words-of
-returns-in-ok-words-of c =
-    let x = c.in-ok-words-of.ensures in
-    record { reply = x; back = back c.args.text.now (Ok (numbers (vec_items c.in-ok-words-of.field-0))) x }
+pub returns-in_ok-words_of : goal.returns-in_ok-words_of
+returns-in_ok-words_of c =
+    let x = c.in_ok-words_of.ensures in
+    record { reply = x; back = back c.args.text.now (Ok (numbers (vec_items c.in_ok-words_of.field-0))) x }
 
-pub returns-in-err-words-of : goal.returns-in-err-words-of
-returns-in-err-words-of c =
+pub returns-in_err-words_of : goal.returns-in_err-words_of
+returns-in_err-words_of c =
     let text = c.args.text.now in
     let r = c.from-residual.result in
     let p = err_from_is_err_and r c.from-residual.ensures.1 in

@@ -11,9 +11,9 @@ pub returns-in-Ok : goal.returns-in-Ok
 returns-in-Ok c =
     let text = c.args.text.now in
     let ws = vec_items c.in-Ok.words in
-    let vs = c.as-slice.result.now in
+    let vs = c.as_slice.result.now in
     record {
-      reply = IfOk-weaker c.statement.result (λ s. string_bytes s ≡ statement (numbers vs)) (λ s. Reports text (string_bytes s)) (λ s h. good text (string_bytes s) ws vs c.in-Ok.ensures.reply c.as-slice.ensures.value h) c.statement.ensures;
+      reply = IfOk-weaker c.statement.result (λ s. string_bytes s ≡ statement (numbers vs)) (λ s. Reports text (string_bytes s)) (λ s h. good text (string_bytes s) ws vs c.in-Ok.ensures.reply c.as_slice.ensures.value h) c.statement.ensures;
       laws = total_laws;
     }
 

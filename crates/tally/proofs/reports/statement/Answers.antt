@@ -15,10 +15,10 @@ loop-word-preserved c =
     let out = string_bytes c.loop-word.out in
     let n = left_more ws i w c.loop-word-test.true c.word-item.is in
     let line = line_text w.bits after.total.bits after.carry after.overflow in
-    let e : string_bytes c.push-str.new.self ≡ out ++ line =
-    c.in-ok-push-str.ensures.bytes ∙ ap (λ x. out ++ x) (c.as-str.ensures.value ∙ c.in-ok-line-text.ensures) in
+    let e : string_bytes c.push_str.new.self ≡ out ++ line =
+    c.in_ok-push_str.ensures.bytes ∙ ap (λ x. out ++ x) (c.as_str.ensures.value ∙ c.in_ok-line_text.ensures) in
     let p = c.plus-after.ensures in (
-      row_added out (string_bytes c.push-str.new.self) line s w.bits after.total.bits (numbers (drop i ws)) (numbers (drop (i + 1) ws)) _
+      row_added out (string_bytes c.push_str.new.self) line s w.bits after.total.bits (numbers (drop i ws)) (numbers (drop (i + 1) ws)) _
           e (row_is s w.bits after.total.bits after.carry after.overflow p.total p.carry p.overflow) p.total n c.loop-word.invariant.0,
       ap (λ t. total t (numbers (drop (i + 1) ws))) p.total ∙ ap (total s) (sym n) ∙ c.loop-word.invariant.1,
     )
@@ -28,6 +28,6 @@ returns c =
     let ws = c.args.words.now in
     let s = c.loop-word.register.bits in
     let out = string_bytes c.loop-word.out in
-    let e : string_bytes c.push-str-2.new.self ≡ out ++ closing (length ws) s =
-    c.in-ok-push-str-2.ensures.bytes ∙ ap (λ x. out ++ x) (c.as-str-2.ensures.value ∙ c.in-ok-closing.ensures) in
-    closed ws c.loop-word.word-index s out (string_bytes c.push-str-2.new.self) c.loop-word-test.false c.loop-word.invariant.0 c.loop-word.invariant.1 e
+    let e : string_bytes c.push_str-2.new.self ≡ out ++ closing (length ws) s =
+    c.in_ok-push_str-2.ensures.bytes ∙ ap (λ x. out ++ x) (c.as_str-2.ensures.value ∙ c.in_ok-closing.ensures) in
+    closed ws c.loop-word.word-index s out (string_bytes c.push_str-2.new.self) c.loop-word-test.false c.loop-word.invariant.0 c.loop-word.invariant.1 e

@@ -5,17 +5,17 @@ use Rattle.word.specs.Digits.{number, number_after}
 use Rattle.word.proofs.Octal.{digit_read, number_small}
 use Rattle.word.proofs.digits.number_written.Goals as goal
 
-pub overflow-mul-total : goal.overflow-mul-total
-overflow-mul-total c =
+pub overflow_mul-total : goal.overflow_mul-total
+overflow_mul-total c =
     let m = digit_read c.args.text.now c.loop-byte.byte-index c.loop-byte.total (number c.args.text.now) c.loop-byte-test.true c.loop-byte.invariant.0 c.loop-byte.invariant.1 in
     let h = number_small c.args.text.now c.requires.digits c.requires.twelve in
     omega (arith, m.bound)
 
-pub overflow-sub-byte : goal.overflow-sub-byte
-overflow-sub-byte c = (digit_read c.args.text.now c.loop-byte.byte-index c.loop-byte.total (number c.args.text.now) c.loop-byte-test.true c.loop-byte.invariant.0 c.loop-byte.invariant.1).low
+pub overflow_sub-byte : goal.overflow_sub-byte
+overflow_sub-byte c = (digit_read c.args.text.now c.loop-byte.byte-index c.loop-byte.total (number c.args.text.now) c.loop-byte-test.true c.loop-byte.invariant.0 c.loop-byte.invariant.1).low
 
-pub overflow-add-total : goal.overflow-add-total
-overflow-add-total c =
+pub overflow_add-total : goal.overflow_add-total
+overflow_add-total c =
     let m = digit_read c.args.text.now c.loop-byte.byte-index c.loop-byte.total (number c.args.text.now) c.loop-byte-test.true c.loop-byte.invariant.0 c.loop-byte.invariant.1 in
     let h = number_small c.args.text.now c.requires.digits c.requires.twelve in
     omega (arith, m.bound)

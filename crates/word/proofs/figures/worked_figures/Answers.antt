@@ -19,24 +19,24 @@ summed s x y a b t c o p q =
 pub returns : goal.returns
 unfolding count_leading_zeros
 returns c = record {
-  address_to_zero = (c.plus.ensures ∙ (λ i. sum (modulus 18) (c.of-lowest.ensures i) (c.of-lowest-2.ensures i)), refl);
-  address_past_minus_zero = (c.plus-2.ensures ∙ (λ i. sum (modulus 18) (c.of-lowest-3.ensures i) (c.of-lowest-4.ensures i)), refl);
+  address_to_zero = (c.plus.ensures ∙ (λ i. sum (modulus 18) (c.of_lowest.ensures i) (c.of_lowest-2.ensures i)), refl);
+  address_past_minus_zero = (c.plus-2.ensures ∙ (λ i. sum (modulus 18) (c.of_lowest-3.ensures i) (c.of_lowest-4.ensures i)), refl);
   minus_zeros =
       let s = c.plus-3.ensures in
-      (summed c.plus-3.result _ _ _ _ s.total s.carry s.overflow c.of-lowest-minus-zero.ensures c.of-lowest-minus-zero.ensures, refl);
+      (summed c.plus-3.result _ _ _ _ s.total s.carry s.overflow c.of_lowest-minus_zero.ensures c.of_lowest-minus_zero.ensures, refl);
   greatest_plus_one =
       let s = c.plus-4.ensures in
-      (summed c.plus-4.result _ _ _ _ s.total s.carry s.overflow c.of-lowest-5.ensures c.of-lowest-one.ensures, refl);
+      (summed c.plus-4.result _ _ _ _ s.total s.carry s.overflow c.of_lowest-5.ensures c.of_lowest-one.ensures, refl);
   unlike_zeros =
       let s = c.plus-5.ensures in
-      (summed c.plus-5.result _ _ _ _ s.total s.carry s.overflow c.of-lowest-minus-zero.ensures c.of-lowest-6.ensures, refl);
+      (summed c.plus-5.result _ _ _ _ s.total s.carry s.overflow c.of_lowest-minus_zero.ensures c.of_lowest-6.ensures, refl);
   right_six_circular =
-      let shifted : c.right_circular.result.bits ≡ right_circular 6 c.of-lowest-shifted.result.bits = c.right_circular.ensures.value in
-      (shifted ∙ ap (right_circular 6) c.of-lowest-shifted.ensures, refl);
+      let shifted : c.right_circular.result.bits ≡ right_circular 6 c.of_lowest-shifted.result.bits = c.right_circular.ensures.value in
+      (shifted ∙ ap (right_circular 6) c.of_lowest-shifted.ensures, refl);
   right_six_algebraic =
-      let shifted : c.right_algebraic.result.bits ≡ right_algebraic 6 c.of-lowest-shifted.result.bits = c.right_algebraic.ensures.value in
-      (shifted ∙ ap (right_algebraic 6) c.of-lowest-shifted.ensures, refl);
-  one_turned = (c.shift-and-count.ensures.word ∙ ap (λ w. left_circular (turn_count w) w) c.of-lowest-one.ensures, refl);
-  one_count = (c.shift-and-count.ensures.count ∙ ap turn_count c.of-lowest-one.ensures, refl);
-  upper_third = (c.part.ensures.value ∙ ap (read (field 7)) c.of-lowest-7.ensures, refl);
+      let shifted : c.right_algebraic.result.bits ≡ right_algebraic 6 c.of_lowest-shifted.result.bits = c.right_algebraic.ensures.value in
+      (shifted ∙ ap (right_algebraic 6) c.of_lowest-shifted.ensures, refl);
+  one_turned = (c.shift_and_count.ensures.word ∙ ap (λ w. left_circular (turn_count w) w) c.of_lowest-one.ensures, refl);
+  one_count = (c.shift_and_count.ensures.count ∙ ap turn_count c.of_lowest-one.ensures, refl);
+  upper_third = (c.part.ensures.value ∙ ap (read (field 7)) c.of_lowest-7.ensures, refl);
 }

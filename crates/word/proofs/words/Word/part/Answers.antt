@@ -9,5 +9,5 @@ pub returns : goal.returns
 returns c =
     let f = field c.args.part.j in
     let w = c.args.self.bits in
-    let e = c.filled.ensures ∙ ap (filled c.field-at-field.result) c.number.ensures ∙ ap (λ g. filled g (bits_at g.start g.width w)) c.field-at-field.ensures in
+    let e = c.filled.ensures ∙ ap (filled c.field_at-field.result) c.number.ensures ∙ ap (λ g. filled g (bits_at g.start g.width w)) c.field_at-field.ensures in
     record { value = e; bits = subst (ReadBits f w) (sym e) (read_gives f w (known_inside c.args.part.j c.args.part.known)) }

@@ -11,8 +11,8 @@ computed c =
     let s = c.signs-signs.result in
     ap (λ p. s - s / 2 ^ p + w / 2 ^ p) c.min-places.ensures ∙ by_signs c.args.count.places w c.args.self.fits s c.signs-signs.ensures
 
-pub invariant-of-result : goal.invariant-of-result
-invariant-of-result c = (subst (λ r. r < 2 ^ 36) (sym (computed (goal.at.invariant-of-result c).After-signs-signs)) (right_algebraic_fits c.args.count.places c.args.self.bits c.args.self.fits), tt)
+pub invariant_of-result : goal.invariant_of-result
+invariant_of-result c = record { fits = subst (λ r. r < 2 ^ 36) (sym (computed (goal.at.invariant_of-result c).After-signs-signs)) (right_algebraic_fits c.args.count.places c.args.self.bits c.args.self.fits) }
 
 pub returns : goal.returns
 returns c =

@@ -8,7 +8,7 @@ pub returns : goal.returns
 returns c =
     let w = c.args.self.bits in
     let n = c.args.count.places in
-    let e : c.turned-left.result.bits ≡ right_circular n w = c.turned-left.ensures in
+    let e : c.turned_left.result.bits ≡ right_circular n w = c.turned_left.ensures in
     record {
       value = e;
       bits = subst (RightCircularBits n w) (sym e) (right_circular_moves n w c.args.self.fits);

@@ -11,18 +11,18 @@ use Rattle.word.proofs.words.Word.shift_and_count.Goals.{After-magnitude}
 zeros : (c : After-magnitude) → count_leading_zeros 64 c.magnitude.result.bits ≡ turn_count c.args.self.bits + 29
 zeros c = ap (count_leading_zeros 64) c.magnitude.ensures ∙ counted c.args.self.bits c.args.self.fits
 
-pub overflow-sub-count : goal.overflow-sub-count
-overflow-sub-count c = omega (arith, zeros (goal.at.overflow-sub-count c).After-magnitude)
+pub overflow_sub-count : goal.overflow_sub-count
+overflow_sub-count c = omega (arith, zeros (goal.at.overflow_sub-count c).After-magnitude)
 
-pub turned-left-requires : goal.turned-left-requires
-turned-left-requires c = omega (arith, zeros (goal.at.turned-left-requires c).After-magnitude, leading_le 35 (magnitude 36 c.args.self.bits))
+pub turned_left-requires : goal.turned_left-requires
+turned_left-requires c = omega (arith, zeros (goal.at.turned_left-requires c).After-magnitude, leading_le 35 (magnitude 36 c.args.self.bits))
 
 pub returns : goal.returns
 returns c =
     let w = c.args.self.bits in
     let n : count_leading_zeros 64 c.magnitude.result.bits - 29 ≡ turn_count w = omega (arith, zeros (goal.at.returns c).After-magnitude) in
-    let turn : c.turned-left.result.bits ≡ turned (count_leading_zeros 64 c.magnitude.result.bits - 29) w = c.turned-left.ensures in
-    let e : c.turned-left.result.bits ≡ left_circular (turn_count w) w = turn ∙ ap (λ p. turned p w) n ∙ turn_whole w c.args.self.fits in
+    let turn : c.turned_left.result.bits ≡ turned (count_leading_zeros 64 c.magnitude.result.bits - 29) w = c.turned_left.ensures in
+    let e : c.turned_left.result.bits ≡ left_circular (turn_count w) w = turn ∙ ap (λ p. turned p w) n ∙ turn_whole w c.args.self.fits in
     record {
       word = e;
       count = n;

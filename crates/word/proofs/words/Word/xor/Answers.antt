@@ -3,5 +3,5 @@ use Rattle.std.proofs.Common.{rules}
 use Rattle.std.proofs.lemmas.Nat.{xor_lt}
 use Rattle.word.proofs.words.Word.xor.Goals as goal
 
-pub invariant-of-result : goal.invariant-of-result
-invariant-of-result c = search (rules, xor_lt 36)
+pub invariant_of-result : goal.invariant_of-result
+invariant_of-result c = search (rules, xor_lt 36)
