@@ -4,7 +4,7 @@ use Rattle.std.proofs.lemmas.List.{map_push, drop_all}
 use Rattle.std.proofs.ByRecursion.{All-get_or}
 use Rattle.std.proofs.lemmas.List.Sums.{prefix_len-le-length}
 use Rattle.std.proofs.lemmas.Bool.Decides.{nat_tests}
-use Rattle.std.specs.List.{AllByRecursion as All}
+use Rattle.std.specs.List.{AllByRecursion}
 use Rattle.word.specs.declared.words.Word.{Word}
 use Rattle.word.specs.Digits.{word_digits, is_octal, front, number}
 use Rattle.word.proofs.Octal.{front_word, length_word, number_word, number_small, reading_back, written_back}
@@ -13,12 +13,12 @@ use Rattle.column.specs.declared.reader.ColumnError.TheVariants.{BadLine, Memory
 use Rattle.column.specs.Column.{lines, IsWord, AllWords, Bad, FirstBad, ColumnOf, GoodColumn, written, numbers, Reads, ReadsBack}
 use Rattle.column.proofs.Cuts.{digits_line}
 
-pub numbers_fit : (ws : List Word) → All (λ n. n < 2 ^ 36) (numbers ws)
+pub numbers_fit : (ws : List Word) → AllByRecursion (λ n. n < 2 ^ 36) (numbers ws)
 numbers_fit [] = tt
 numbers_fit (w ∷ ws) = (w.fits, numbers_fit ws)
 
 -- numbers of words are written as words
-written_words : (ns : List ℕ) → All (λ n. n < 2 ^ 36) ns → AllWords (map word_digits ns)
+written_words : (ns : List ℕ) → AllByRecursion (λ n. n < 2 ^ 36) ns → AllWords (map word_digits ns)
 written_words [] f = tt
 written_words (n ∷ ns) f = (ap is_ok (reading_back n f.0), written_words ns f.1)
 
@@ -74,7 +74,7 @@ written_lines [] = refl
 written_lines (n ∷ ns) = digits_line (word_digits n) (written ns) (front_word n ∙ sym (length_word n)) ∙ ap (λ ls. word_digits n ∷ ls) (written_lines ns)
 
 -- words with the same digits are the same
-read_off : (ns : List ℕ) → All (λ n. n < 2 ^ 36) ns → map number (map word_digits ns) ≡ ns
+read_off : (ns : List ℕ) → AllByRecursion (λ n. n < 2 ^ 36) ns → map number (map word_digits ns) ≡ ns
 read_off [] f = refl
 read_off (n ∷ ns) f = λ i. number_word n f.0 i ∷ read_off ns f.1 i
 
@@ -82,7 +82,7 @@ twelve : (line : List ℕ) → IsWord line → (front line ≡ length line) × (
 twelve line w = let h = prefix_len-le-length is_octal line in grind (arith, nat_tests)
 
 -- what words read as are numbers of words, which write them
-numbers_read : (ls : List (List ℕ)) → AllWords ls → All (λ n. n < 2 ^ 36) (map number ls) × (map word_digits (map number ls) ≡ ls)
+numbers_read : (ls : List (List ℕ)) → AllWords ls → AllByRecursion (λ n. n < 2 ^ 36) (map number ls) × (map word_digits (map number ls) ≡ ls)
 numbers_read [] w = (tt, refl)
 numbers_read (l ∷ ls) w =
     let t = twelve l w.0 in

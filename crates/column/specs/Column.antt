@@ -18,7 +18,7 @@
 --   Exactly ns r     the answer is these numbers, unless memory lacked
 --   ReadsBack bs r  text that was written from numbers reads as these numbers
 use Rattle.std.specs.Prelude.{◌≡◌, ℕ, ◌-◌, ◌^◌, ◌<◌, ◌≤◌, true, false, cond, not, List, [], ◌∷◌, ◌++◌, map, length, is_ok, Ok, Err, vec_items, Result, Vec, ◌==◌, slice_index_or}
-use Rattle.std.specs.List.{prefix_len, AllByRecursion as All}
+use Rattle.std.specs.List.{prefix_len, AllByRecursion}
 use Rattle.std.specs.declared.alloc.Global.{Global}
 use Rattle.word.specs.declared.words.Word.{Word}
 use Rattle.word.specs.Digits.{word_digits, reading}
@@ -43,7 +43,7 @@ abbrev pub IsWord : List ℕ → Type 0
 IsWord line = is_ok (reading line) ≡ true
 
 abbrev pub AllWords : List (List ℕ) → Type 0
-AllWords ls = All IsWord ls
+AllWords ls = AllByRecursion IsWord ls
 
 abbrev pub Bad : List ℕ → Type 0
 Bad line = is_ok (reading line) ≡ false
@@ -55,7 +55,7 @@ pub record FirstBad (n : ℕ) (ls : List (List ℕ)) : Type 0 where
   pub before : (k : ℕ) → k < n - 1 → Bad (slice_index_or ls k []) → ⊥
 
 pub record ColumnOf (bs ns : List ℕ) : Type 0 where
-  pub fit : All (λ n. n < 2 ^ 36) ns
+  pub fit : AllByRecursion (λ n. n < 2 ^ 36) ns
   pub digits : map word_digits ns ≡ lines bs
 
 abbrev pub GoodColumn : List ℕ → Type 0
@@ -83,4 +83,4 @@ Exactly ns (Err (BadLine n)) = ⊥
 Exactly ns (Err Memory) = Unit {0}
 
 abbrev pub ReadsBack : List ℕ → Result (List ℕ) ColumnError → Type 0
-ReadsBack bs r = (ns : List ℕ) → All (λ n. n < 2 ^ 36) ns → bs ≡ written ns → Exactly ns r
+ReadsBack bs r = (ns : List ℕ) → AllByRecursion (λ n. n < 2 ^ 36) ns → bs ≡ written ns → Exactly ns r

@@ -4,6 +4,8 @@
 // that is no word, or that there was no memory for the words, which is answered only where every line is one.
 // `first_bad_line` finds that line alone, and takes no memory. `ColumnErrorFromAlloc` makes the error of a lack of memory,
 // for `?`.
+#![tactic(auto)]
+
 mod lines;
 mod reader;
 

@@ -7,7 +7,7 @@
 --                    is the sum of the signed values; and it does not depend on the order of the words
 use Rattle.std.specs.Prelude.{◌≡◌, ℕ, ◌+◌, ◌%◌, ◌^◌, ◌<◌, false, List, [], ◌∷◌, ℤ, pos, ◌+ℤ◌}
 use Rattle.std.specs.List.Sorted.{IsPermutation}
-use Rattle.std.specs.List.{AllByRecursion as All}
+use Rattle.std.specs.List.{AllByRecursion}
 use Rattle.word.specs.Sums.{modulus, overflows, value}
 use Rattle.tally.specs.Tally.{plus, total}
 
@@ -24,7 +24,7 @@ Calm s [] = Unit {0}
 Calm s (w ∷ ws) = (overflows 36 s w ≡ false) × Calm (plus s w) ws
 
 abbrev pub Words : List ℕ → Type 0
-Words ws = All (λ w. w < 2 ^ 36) ws
+Words ws = AllByRecursion (λ w. w < 2 ^ 36) ws
 
 pub record TotalLaws : Type 0 where
   pub remainder : (ws : List ℕ) → Words ws → total 0 ws ≡ plain ws % modulus 36

@@ -1,4 +1,6 @@
 // Adds up a column of words from the standard input as the machine would, and prints each sum.
+#![tactic(auto)]
+
 mod reports;
 
 use reports::report;

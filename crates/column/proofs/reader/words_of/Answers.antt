@@ -14,7 +14,7 @@ pub loop-start-preserved : goal.loop-start-preserved
 loop-start-preserved c =
     let s = line_at c.args.text.now c.loop-start.start c.line_end-end.result c.loop-start-test.true c.line_end-end.ensures.value in (
       (subst AllWords s c.loop-start.invariant.0).1,
-      word_read (vec_items c.loop-start.words) (vec_items c.push.new.self) c.in-Ok.word _ _ _ _ s c.in_ok-push.ensures.items c.in-Ok.ensures.back c.loop-start.invariant.1,
+      word_read (vec_items c.loop-start.words) (vec_items c.push.new.self) c.in-Ok.word _ _ _ _ s c.in_ok-push-in-Ok.ensures.items c.in-Ok.ensures.back c.loop-start.invariant.1,
     )
 
 pub returns : goal.returns
