@@ -1,4 +1,6 @@
 // Cases that are run: the machine's printed examples beyond the proved figures, and others worked out by the rules.
+#![tactic(auto)]
+
 #[cfg(test)]
 mod columns;
 #[cfg(test)]
