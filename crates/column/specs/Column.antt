@@ -4,19 +4,19 @@
 --   put_before b ls  the lines ls with the byte b before the first, or as a line of its own where there is none
 --   lines bs         the text cut at its newlines: a newline ends a line, the last line may lack it,
 --                    and nothing after a final newline is no line
---   IsWord line     the line reads as a word
---   AllWords ls     each line is a word
+--   IsWord line      the line reads as a word
+--   AllWords ls      each line is a word
 --   Bad line         the line is no word
---   FirstBad n ls   line n, counted from 1, is bad, and each line before it is a word
---   ColumnOf bs ns  the lines of bs are the digits of the numbers ns, which are words
---   GoodColumn bs   bs is the column of some numbers
+--   FirstBad n ls    line n, counted from 1, is bad, and each line before it is a word
+--   ColumnOf bs ns   the lines of bs are the digits of the numbers ns, which are words
+--   GoodColumn bs    bs is the column of some numbers
 --   written ns       the numbers ns as text, each with a newline after it
 --   numbers ws       the numbers of words
 --   numbers_of r     a result of the reading, with numbers in place of words
 --   Reads bs r       r answers for bs: with its numbers, with its first bad line,
 --                    or with a lack of memory, where bs is a good column
 --   Exactly ns r     the answer is these numbers, unless memory lacked
---   ReadsBack bs r  text that was written from numbers reads as these numbers
+--   ReadsBack bs r   text that was written from numbers reads as these numbers
 use Rattle.std.specs.Prelude.{◌≡◌, ℕ, ◌-◌, ◌^◌, ◌<◌, ◌≤◌, true, false, cond, not, List, [], ◌∷◌, ◌++◌, map, length, is_ok, Ok, Err, vec_items, Result, Vec, ◌==◌, slice_index_or}
 use Rattle.std.specs.List.{prefix_len, AllByRecursion}
 use Rattle.std.specs.declared.alloc.Global.{Global}

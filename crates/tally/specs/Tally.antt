@@ -8,8 +8,8 @@
 --   statement ws     the whole report on the words ws
 --   bad n            the report on an input whose first bad line is line n
 --   Refuses e out    out is the report on an input that could not be read, for the reason e
---   GoodReport bs out   bs is a column of words, and out is the whole report on them
---   BadReport bs out    bs has a first bad line, and out names it
+--   GoodReport bs out    bs is a column of words, and out is the whole report on them
+--   BadReport bs out     bs has a first bad line, and out names it
 --   Reports bs out   out is the report on the input bs
 use Rattle.std.specs.Prelude.{◌≡◌, ℕ, Bool, cond, ◌⊎◌, List, [], ◌∷◌, ◌++◌, length, codes, decimal}
 use Rattle.std.specs.Fmt.{signed_decimal}

@@ -3,7 +3,7 @@
 --   plain ws         the sum of the words as numbers, without a bound
 --   value_sum ws     the sum of their signed values
 --   Calm s ws        no sum overflows as the words are added to the register s
---   TotalLaws       the total is the remainder of the plain sum by the modulus; where no sum overflows, its signed value
+--   TotalLaws        the total is the remainder of the plain sum by the modulus; where no sum overflows, its signed value
 --                    is the sum of the signed values; and it does not depend on the order of the words
 use Rattle.std.specs.Prelude.{◌≡◌, ℕ, ◌+◌, ◌%◌, ◌^◌, ◌<◌, false, List, [], ◌∷◌, ℤ, pos, ◌+ℤ◌}
 use Rattle.std.specs.List.Sorted.{IsPermutation}

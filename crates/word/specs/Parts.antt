@@ -6,8 +6,8 @@
 --   read f w              the field f of the word w, filled
 --   stored f w v          w with the lowest bits of v in the field f
 --   Apart s n f           the n bits from bit s up share none with the field f
---   ReadBits f w r       r is the field f of w, bit by bit: its own bits, and above them what fills
---   StoredBits f w v r   r is w with v stored in the field f: bit by bit, read back, and read elsewhere
+--   ReadBits f w r        r is the field f of w, bit by bit: its own bits, and above them what fills
+--   StoredBits f w v r    r is w with v stored in the field f: bit by bit, read back, and read elsewhere
 use Rattle.std.specs.Prelude.{◌≡◌, ℕ, ◌+◌, ◌-◌, ◌*◌, ◌%◌, ◌^◌, ◌<◌, ◌≤◌, Bool, true, false, cond, ◌&&◌, ◌⊎◌, nat_le}
 use Rattle.word.specs.declared.fields.Field.{Field}
 use Rattle.word.specs.declared.fields.Fill.{Fill}

@@ -3,10 +3,10 @@
 --   right_circular n w, left_circular n w   the bits that leave at one end come in at the other
 --   right_logical n w, left_logical n w     zeros come in
 --   right_algebraic n w                     bits like the sign come in
---   RightCircularBits n w r, and so on    where each bit of r comes from, or each bit of w goes
+--   RightCircularBits n w r, and so on      where each bit of r comes from, or each bit of w goes
 --   Unlike w                  the two leftmost bits of w differ
 --   turn_count w              how many bits right of the sign are like it, before the first that is not
---   LeastTurn w r n          r is w turned left by n places, the least number that brings unlike bits to the left, or 35 where none does
+--   LeastTurn w r n           r is w turned left by n places, the least number that brings unlike bits to the left, or 35 where none does
 use Rattle.std.specs.Prelude.{◌≡◌, ℕ, ◌+◌, ◌-◌, ◌*◌, ◌/◌, ◌%◌, ◌^◌, ◌<◌, min, cond, ◌⊎◌}
 use Rattle.std.specs.Int.Count.{count_leading_zeros}
 use Rattle.word.specs.Bits.{bit}

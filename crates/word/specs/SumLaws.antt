@@ -3,8 +3,8 @@
 --   Complements  a complement has n bits and the other sign, adds up to +0, and is undone by another; a magnitude has no sign
 --   Values       signed values add up where there is no overflow, and stray where there is
 --   Order        of two numbers one is greater; +0 is greater than -0; but for that pair the order is that of the signed values
---   SumLaws n   all of these at the width n
-use Rattle.std.specs.Prelude.{◌≡◌, ℕ, ◌+◌, ◌%◌, ◌^◌, ◌<◌, true, false, not, ◌⊎◌, ℤ, ◌+ℤ◌, ◌<ℤ◌, ◌≢◌}
+--   SumLaws n    all of these at the width n
+use Rattle.std.specs.Prelude.{◌≡◌, ℕ, ◌+◌, ◌%◌, ◌^◌, ◌<◌, true, false, not, ◌⊎◌, ◌+ℤ◌, ◌<ℤ◌, ◌≢◌}
 use Rattle.word.specs.Sums.{modulus, sum, complement, negative, magnitude, overflows, value, greater}
 
 pub record Addition (n m : ℕ) : Type 0 where
