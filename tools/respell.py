@@ -4,27 +4,27 @@
 usage: python3 tools/respell.py        in the repository, once, after the toolchain's port.py
 
 Words are in snake case, types and facts in camel case. A dash stays only where it joins the names of two
-functions, the outer call first, as in front-octal and length-octal. Names of src/ stay as they are, and so do those that Rattle makes.
-Names that fall together with one that stood there already are printed.
+functions, the outer call first, as in front-octal and length-octal. Names of src/ stay as they are, and so
+do those that Rattle makes. Names that fall together with one that stood there already are printed.
 """
 
 import os
 import re
 import sys
 
-# Facts and records, one word to a name.
+# Facts and records, which become camel case.
 FACTS = """
 All-words Bad-report Column-of First-bad Good-column Good-report Is-word Least-turn Left-circular-bits
 Left-logical-bits Read-bits Read-more Reads-back Right-algebraic-bits Right-circular-bits Right-logical-bits
 Stored-bits Sum-laws Total-laws
 """
 
-# Functions, lemmas, fields of records and names bound in proofs.
+# Functions, lemmas, fields of records and names bound in proofs, which become snake case.
 WORDS = """
-above-all adder-reply address-past-minus-zero address-to-zero all-alike ascii-octal bad-here bad-later
+above-all adder-reply address-past-minus-zero address-to-zero ascii-octal bad-here bad-later
 by-magnitude by-signs complement-bit complement-high digit-read digit-written digits-line fill-bit filled-high
 filled-low fills-equal first-line first-octal front-word full-sum gone-left good-column greatest-plus-one high-of
-is-number is-octal is-ones known-inside leading-one least-turn left-circular left-circular-moves left-logical
+is-octal is-ones known-inside leading-one least-turn left-circular left-circular-moves left-logical
 left-logical-moves left-more left-undone length-word line-length line-text magnitude-unsigned minus-zero-of-two
 minus-zeros moved-whole never-bad none-bad nothing-before nothing-more number-after number-octal numbers-read
 octal-number of-high one-count one-turned ones-on-top others-stay plain-or-less plain-sum put-before put-by-code
@@ -60,7 +60,9 @@ def files(root):
     for folder, dirs, names in os.walk(root):
         dirs[:] = sorted(d for d in dirs if d not in ("out", "target", ".git", "tools"))
         for name in sorted(names):
-            yield os.path.join(folder, name)
+            # That page cites the older names.
+            if name != "PORT.md":
+                yield os.path.join(folder, name)
 
 
 # Where names are cited: in antt everywhere, in Rattle outside comments, in pages between backticks.

@@ -2,7 +2,7 @@
 //
 // The crate reads such a text. `read_column` gives its words in order, or a `ColumnError`: the number of the first line
 // that is no word, or that there was no memory for the words, which is answered only where every line is one.
-// `first_bad_line` finds that line alone, and takes no memory. A lack of memory becomes the error by `?`.
+// `first_bad_line` finds that line alone, and takes no memory. `?` makes a lack of memory `ColumnError::Memory`.
 #![tactic(auto)]
 
 mod lines;
