@@ -87,7 +87,8 @@ impl Field {
 
     /// A number of the field's width as a whole word.
     pub(crate) fn filled(self, number: u64) -> Word
-        requires { (Inside self) × (number < 2 ^ self.width) }
+        requires inside { Inside self }
+        requires fits { number < 2 ^ self.width }
         ensures { result.bits ≡ filled self number }
     {
         let ones = self.ones();

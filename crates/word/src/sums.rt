@@ -16,7 +16,10 @@ pub struct Sum<N> {
 
 /// The sum of two numbers of a width, in ones' complement: the one adder behind every sum.
 pub(crate) fn add_at_width(width: u32, a: u64, b: u64) -> Sum<u64>
-    requires { (0 < width) × ((width < 64) × ((a < 2 ^ width) × (b < 2 ^ width))) }
+    requires some { 0 < width }
+    requires few { width < 64 }
+    requires a_fits { a < 2 ^ width }
+    requires b_fits { b < 2 ^ width }
     ensures { result ≡ full_sum width a b }
 {
     let modulus = (1u64 << width) - 1;

@@ -7,8 +7,8 @@ use word::{Adder, Half, Word};
 const MINUS_ZERO: u64 = 0o777777777777;
 
 fn check_designators(rt: &impl Abort, name: &'static str, carry: bool, overflow: bool) {
-    assert!(rt; carry, "{}; {}", "carry", name);
-    assert!(rt; overflow, "{}; {}", "overflow", name);
+    assert!(rt; carry, "carry; {name}");
+    assert!(rt; overflow, "overflow; {name}");
 }
 
 #[test]
@@ -32,7 +32,7 @@ fn six_bit_adder(rt: HostRuntime) -> Result<(), Fail> {
     };
     for (name, a, b, total, carry, overflow) in cases {
         let sum = adder.add(a, b).ok_or("an operand of more than six bits")?;
-        assert_eq!(rt; sum.total, total, "{}", name);
+        assert_eq!(rt; sum.total, total, "{name}");
         check_designators(&rt, name, sum.carry == carry, sum.overflow == overflow);
     }
     assert!(rt; adder.add(0b1000000, 0).is_none());
@@ -81,7 +81,7 @@ fn word_sums(rt: HostRuntime) {
     ];
     for (name, a, b, total, carry, overflow) in cases {
         let sum = Word::of_lowest(a).plus(Word::of_lowest(b));
-        assert_eq!(rt; sum.total.number(), total, "{}", name);
+        assert_eq!(rt; sum.total.number(), total, "{name}");
         check_designators(&rt, name, sum.carry == carry, sum.overflow == overflow);
     }
 }
@@ -108,7 +108,7 @@ fn word_differences(rt: HostRuntime) {
     ];
     for (name, a, b, total, carry, overflow) in cases {
         let sum = Word::of_lowest(a).plus(Word::of_lowest(b).complement());
-        assert_eq!(rt; sum.total.number(), total, "{}", name);
+        assert_eq!(rt; sum.total.number(), total, "{name}");
         check_designators(&rt, name, sum.carry == carry, sum.overflow == overflow);
     }
 }
