@@ -5,7 +5,7 @@ use Rattle.std.proofs.ByRecursion.{All-get_or}
 use Rattle.std.proofs.lemmas.List.Sums.{prefix_len-le-length}
 use Rattle.std.proofs.lemmas.Bool.Decides.{nat_tests}
 use Rattle.std.specs.List.{AllByRecursion}
-use Rattle.word.specs.declared.words.Word.{Word}
+use Rattle.word.specs.Words.{Word}
 use Rattle.word.specs.Digits.{word_digits, is_octal, front, number}
 use Rattle.word.proofs.Octal.{front_word, length_word, number_word, number_small, reading_back, written_back}
 use Rattle.column.specs.declared.reader.ColumnError.{ColumnError}

@@ -20,7 +20,7 @@
 use Rattle.std.specs.Prelude.{◌≡◌, ℕ, ◌-◌, ◌^◌, ◌<◌, ◌≤◌, true, false, cond, not, List, [], ◌∷◌, ◌++◌, map, length, is_ok, Ok, Err, vec_items, Result, Vec, ◌==◌, slice_index_or}
 use Rattle.std.specs.List.{prefix_len, AllByRecursion}
 use Rattle.std.specs.declared.alloc.Global.{Global}
-use Rattle.word.specs.declared.words.Word.{Word}
+use Rattle.word.specs.Words.{Word}
 use Rattle.word.specs.Digits.{word_digits, reading}
 use Rattle.column.specs.declared.reader.ColumnError.{ColumnError}
 use Rattle.column.specs.declared.reader.ColumnError.TheVariants.{BadLine, Memory}

@@ -1,7 +1,7 @@
 -- The rows of a report, one word at a time, and the report as a whole. Assumes nothing.
 use Rattle.std.proofs.Common.{◌≡◌, ℕ, ◌+◌, ◌<◌, ◌≤◌, Bool, List, [], ◌∷◌, ◌++◌, length, get_or, drop, Err, sym, ap, ◌∙◌, inl, inr, append_assoc, append-nil}
 use Rattle.std.proofs.lemmas.List.{drop_more, drop_all, length-map}
-use Rattle.word.specs.declared.words.Word.{Word}
+use Rattle.word.specs.Words.{Word}
 use Rattle.word.specs.Sums.{modulus, carries, overflows}
 use Rattle.column.specs.declared.reader.ColumnError.{ColumnError}
 use Rattle.column.specs.declared.reader.ColumnError.TheVariants.{BadLine, Memory}

@@ -1,7 +1,7 @@
 -- Bits of parts of a number: of its low end, of its high end, of two ends put together. Assumes nothing.
-use Rattle.std.proofs.Common.{◌≡◌, ℕ, zero, suc, ◌+◌, ◌-◌, ◌*◌, ◌/◌, ◌%◌, ◌^◌, ◌<◌, ◌≤◌, sym, ap, ◌∙◌, subst, mod-lt, mod-eq_of_lt, mul_assoc, add-mul, pow-suc, arith, pow_pos, pow_mono, pow-add, shr-shr, shr_lt}
-use native.Mathlib.Nat.{zero-div, div-eq_of_lt, mul-mod_left, sub-zero}
-use lib.Pow.{shl-shr, split, high, low, field, mod-mod-pow, mod-pow-add}
+use Rattle.std.proofs.Common.{add-zero, w64, ◌≡◌, ℕ, suc, ◌+◌, ◌-◌, ◌*◌, ◌/◌, ◌%◌, ◌^◌, ◌<◌, ◌≤◌, sym, ap, ◌∙◌, subst, pow-suc, arith, shr-shr}
+use lib.Pow.{high, low, field, mod-mod-pow}
+use Rattle.std.proofs.lemmas.Nat.Bits.{bit_at_cat_low, bit_at-zero, bit_at_not}
 use Rattle.word.specs.Bits.{bit, bits_at}
 
 -- bits of the k lowest bits are bits of the number
@@ -21,58 +21,16 @@ of_low s n k hi lo h inside = sym (low_end s n k (hi * 2 ^ k + lo) inside) ∙ a
 pub of_high : (s n k hi lo : ℕ) → lo < 2 ^ k → bits_at (k + s) n (hi * 2 ^ k + lo) ≡ bits_at s n hi
 of_high s n k hi lo h = sym (high_end s n k (hi * 2 ^ k + lo)) ∙ ap (bits_at s n) (high hi k h)
 
--- a number of k bits has zeros above them
-pub above_all : (i k x : ℕ) → x < 2 ^ k → k ≤ i → bit i x ≡ 0
-above_all i k x h over = ap (λ y. y % 2) (div-eq_of_lt (omega (arith, pow_mono over)))
-
 -- places moved to the left leave zeros behind
 pub behind : (i n x : ℕ) → i < n → bit i (x * 2 ^ n) ≡ 0
-behind i n x h =
-    let e : n ≡ suc (n - i - 1) + i = omega arith in
-    let d : x * 2 ^ n ≡ (x * 2 ^ (n - i - 1) * 2) * 2 ^ i = ap (λ k. x * 2 ^ k) e ∙ ap (λ y. x * y) (pow-add 2 (suc (n - i - 1)) i ∙ ap (λ y. y * 2 ^ i) (pow-suc 2 (n - i - 1))) ∙ simp mul_assoc in
-    ap (λ y. y / 2 ^ i % 2) d ∙ ap (λ y. y % 2) (shl-shr (x * 2 ^ (n - i - 1) * 2) i) ∙ mul-mod_left (x * 2 ^ (n - i - 1)) 2
+behind i n x h = ap (bit i) (sym (add-zero (x * 2 ^ n))) ∙ bit_at_cat_low x n 0 i h ∙ bit_at-zero i
 
 -- a power of two that is at least 2 is even
 pub even : (p : ℕ) → 0 < p → 2 ^ p ≡ 2 ^ (p - 1) * 2
 even p h = let e : p ≡ suc (p - 1) = omega arith in ap (λ k. 2 ^ k) e ∙ pow-suc 2 (p - 1)
 
--- the complement, shifted right
-pub complement_high : (p k a : ℕ) → a < 2 ^ (p + k) → (2 ^ (p + k) - 1 - a) / 2 ^ k ≡ 2 ^ p - 1 - a / 2 ^ k
-complement_high p k a h =
-    let q = a / 2 ^ k in
-    let c = 2 ^ p - 1 - q in
-    let apart = split a k in
-    let rest : a % 2 ^ k < 2 ^ k = mod-lt a (pow_pos k) in
-    let few : q < 2 ^ p = shr_lt p k h in
-    let f : 2 ^ p ≡ c + (q + 1) = omega arith in
-    let g : 2 ^ p * 2 ^ k ≡ c * 2 ^ k + (q * 2 ^ k + 1 * 2 ^ k) = ap (λ y. y * 2 ^ k) f ∙ add-mul c (q + 1) (2 ^ k) ∙ ap (λ y. c * 2 ^ k + y) (add-mul q 1 (2 ^ k)) in
-    let whole = pow-add 2 p k in
-    let d : 2 ^ (p + k) - 1 - a ≡ c * 2 ^ k + (2 ^ k - 1 - a % 2 ^ k) = omega arith in
-    ap (λ y. y / 2 ^ k) d ∙ high c k (omega arith)
-
--- each bit of the complement is the other one
-pub complement_bit : (w i a : ℕ) → i < w → a < 2 ^ w → bit i (2 ^ w - 1 - a) ≡ 1 - bit i a
-complement_bit w i a h fits =
-    let e : (w - i) + i ≡ w = omega arith in
-    let d = subst (λ k. a < 2 ^ k → (2 ^ k - 1 - a) / 2 ^ i ≡ 2 ^ (w - i) - 1 - a / 2 ^ i) e (complement_high (w - i) i a) fits in
-    let b = shr_lt {n = a} (w - i) i (subst (λ k. a < 2 ^ k) (sym e) fits) in
-    let v = even (w - i) (omega arith) in
-    ap (λ y. y % 2) d ∙ omega arith
-
--- a number of p ones
-pub ones_bit : (p i : ℕ) → i < p → bit i (2 ^ p - 1) ≡ 1
-ones_bit p i h =
-    ap (bit i) (sym (sub-zero (2 ^ p - 1))) ∙ complement_bit p i 0 h (pow_pos p)
-    ∙ ap (λ x. 1 - x % 2) (zero-div (2 ^ i))
-
--- numbers with the same k lowest bits have the same remainder
-same_low : (k a b : ℕ) → ((i : ℕ) → i < k → bit i a ≡ bit i b) → a % 2 ^ k ≡ b % 2 ^ k
-same_low zero a b h = omega arith
-same_low (suc k) a b h =
-    let e : 1 + k ≡ suc k = omega arith in
-    let split_off : (x : ℕ) → x % 2 ^ suc k ≡ bit k x * 2 ^ k + x % 2 ^ k = λ x. subst (λ j. x % 2 ^ j ≡ bit k x * 2 ^ k + x % 2 ^ k) e (mod-pow-add x 1 k) in
-    split_off a ∙ (λ i. h k (omega arith) i * 2 ^ k + same_low k a b (λ j lt. h j (omega arith)) i) ∙ sym (split_off b)
-
--- the bits say which number it is
-pub same_bits : (k a b : ℕ) → a < 2 ^ k → b < 2 ^ k → ((i : ℕ) → i < k → bit i a ≡ bit i b) → a ≡ b
-same_bits k a b fa fb h = sym (mod-eq_of_lt fa) ∙ same_low k a b h ∙ mod-eq_of_lt fb
+-- each bit of the complement of a word is the other one
+pub complement_bit : (i a : ℕ) → i < 36 → a < 2 ^ 36 → bit i (2 ^ 36 - 1 - a) ≡ 1 - bit i a
+complement_bit i a h fits =
+    let e : 2 ^ 36 - 1 - a ≡ (2 ^ 64 - 1 - a) % 2 ^ 36 = omega arith in
+    ap (bit i) e ∙ low_end i 1 36 (2 ^ 64 - 1 - a) (omega arith) ∙ bit_at_not w64 a i (omega arith) (omega arith)

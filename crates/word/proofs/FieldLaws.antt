@@ -5,17 +5,17 @@ use lib.Arith.{digits_lt}
 use lib.Bits.{bit_and}
 use lib.Pow.{split, high, low, high_ones}
 use Rattle.std.proofs.lemmas.Nat.{and_mask}
+use Rattle.std.proofs.lemmas.Nat.Bits.{bit_at_above, bit_at_ones}
 use Rattle.std.proofs.lemmas.Bool.{cases_lt, le-leb, lt-leb}
-use Rattle.std.proofs.lemmas.Bool.Decides.{nat_tests}
 use Rattle.word.specs.declared.fields.Field.{Field}
 use Rattle.word.specs.Bits.{bit, bits_at}
-use Rattle.word.specs.Parts.{Inside, StoredBits, ReadBits, takes_sign, filled, read, stored, field}
+use Rattle.word.specs.Parts.{Inside, StoredBits, ReadBits, takes_sign, filled, read, stored}
 use Rattle.word.specs.Sums.{negative}
-use Rattle.word.proofs.Bitwise.{above_all, even, high_end, low_end, of_low, of_high, ones_bit}
+use Rattle.word.proofs.Bitwise.{even, high_end, low_end, of_low, of_high}
 
 -- w as what stands above the field, the field and what stands below it; the same with a value in the field
 module _ (s n w v : ℕ) where
-  pub joined : ℕ → ℕ
+  joined : ℕ → ℕ
   joined x = (w / 2 ^ s / 2 ^ n * 2 ^ n + x) * 2 ^ s + w % 2 ^ s
 
   whole : joined (bits_at s n w) ≡ w
@@ -26,21 +26,16 @@ module _ (s n w v : ℕ) where
   unfolding joined
   apart x = ap (λ y. y + w % 2 ^ s) (add-mul (w / 2 ^ s / 2 ^ n * 2 ^ n) x (2 ^ s))
 
-  pub taken_out : bits_at s n w * 2 ^ s ≤ w
-  taken_out = omega (arith, whole, apart (bits_at s n w))
-
-  pub put_in : w - bits_at s n w * 2 ^ s + v % 2 ^ n * 2 ^ s ≡ joined (v % 2 ^ n)
+  put_in : w - bits_at s n w * 2 ^ s + v % 2 ^ n * 2 ^ s ≡ joined (v % 2 ^ n)
   put_in = omega (arith, whole, apart (bits_at s n w), apart (v % 2 ^ n))
 
-  pub fits : s + n ≤ 36 → w < 2 ^ 36 → joined (v % 2 ^ n) < 2 ^ 36
+  fits : s + n ≤ 36 → w < 2 ^ 36 → joined (v % 2 ^ n) < 2 ^ 36
   unfolding joined
   fits h word =
-      let e : (36 - s) + s ≡ 36 = omega arith in
-      let f : (36 - s - n) + n ≡ 36 - s = omega arith in
-      let upper = shr_lt {n = w} (36 - s) s (subst (λ k. w < 2 ^ k) (sym e) word) in
-      let top = shr_lt {n = w / 2 ^ s} (36 - s - n) n (subst (λ k. w / 2 ^ s < 2 ^ k) (sym f) upper) in
-      let inner = subst (λ m. w / 2 ^ s / 2 ^ n * 2 ^ n + v % 2 ^ n < m) (sym (pow-add 2 (36 - s - n) n) ∙ ap (λ k. 2 ^ k) f) (digits_lt top (mod-lt v (pow_pos n))) in
-      subst (λ m. (w / 2 ^ s / 2 ^ n * 2 ^ n + v % 2 ^ n) * 2 ^ s + w % 2 ^ s < m) (sym (pow-add 2 (36 - s) s) ∙ ap (λ k. 2 ^ k) e) (digits_lt inner (mod-lt w (pow_pos s)))
+      let r = 36 - s - n in
+      let whole : r + n + s ≡ 36 = omega arith in
+      let top = shr_lt {n = w / 2 ^ s} r n (shr_lt {n = w} (r + n) s (subst (λ k. w < 2 ^ k) (sym whole) word)) in
+      subst (λ k. joined (v % 2 ^ n) < 2 ^ k) whole (rw (pow-add 2 (r + n) s, pow-add 2 r n) (digits_lt (digits_lt top (mod-lt v (pow_pos n))) (mod-lt w (pow_pos s))))
 
   -- bits outside the field do not depend on what is in it
   outside : (x i k : ℕ) → x < 2 ^ n → (i + k ≤ s) ⊎ (s + n ≤ i) → bits_at i k (joined x) ≡ bits_at i k (joined (bits_at s n w))
@@ -57,16 +52,16 @@ module _ (s n w v : ℕ) where
       (λ over. high_of x h over ∙ sym (high_of (bits_at s n w) (mod-lt (w / 2 ^ s) (pow_pos n)) over))
       o
 
-  pub kept : (i k : ℕ) → (i + k ≤ s) ⊎ (s + n ≤ i) → bits_at i k (joined (v % 2 ^ n)) ≡ bits_at i k w
+  kept : (i k : ℕ) → (i + k ≤ s) ⊎ (s + n ≤ i) → bits_at i k (joined (v % 2 ^ n)) ≡ bits_at i k w
   kept i k o = outside (v % 2 ^ n) i k (mod-lt v (pow_pos n)) o ∙ ap (bits_at i k) whole
 
-  pub moved : (i : ℕ) → i < n → bit (s + i) (joined (v % 2 ^ n)) ≡ bit i v
+  moved : (i : ℕ) → i < n → bit (s + i) (joined (v % 2 ^ n)) ≡ bit i v
   unfolding joined
   moved i h =
       of_high i 1 s (w / 2 ^ s / 2 ^ n * 2 ^ n + v % 2 ^ n) (w % 2 ^ s) (mod-lt w (pow_pos s))
       ∙ of_low i 1 n (w / 2 ^ s / 2 ^ n) (v % 2 ^ n) (mod-lt v (pow_pos n)) (omega arith) ∙ low_end i 1 n v (omega arith)
 
-  pub found : bits_at s n (joined (v % 2 ^ n)) ≡ v % 2 ^ n
+  found : bits_at s n (joined (v % 2 ^ n)) ≡ v % 2 ^ n
   unfolding joined
   found =
       ap (λ y. y % 2 ^ n) (high (w / 2 ^ s / 2 ^ n * 2 ^ n + v % 2 ^ n) s (mod-lt w (pow_pos s)))
@@ -87,10 +82,6 @@ store_leaves f w v =
 pub stored_fits : (f : Field) (w v : ℕ) → Inside f → w < 2 ^ 36 → stored f w v < 2 ^ 36
 stored_fits f w v h word = subst (λ r. r < 2 ^ 36) (sym (put_in f.start f.width w v)) (fits f.start f.width w v h.within word)
 
--- every field that a selector names lies in a word
-pub known_inside : (j : ℕ) → j < 14 → Inside (field j)
-known_inside j h = record { some = grind (arith, nat_tests); within = grind (arith, nat_tests) }
-
 -- a number of the field's width as a whole word: ones above it or nothing
 module _ (f : Field) (v : ℕ) (inside : Inside f) (few : v < 2 ^ f.width) where
   ones_above : filled f v ≡ cond (takes_sign f.fill && negative f.width v) ((2 ^ (36 - f.width) - 1) * 2 ^ f.width + v) v
@@ -108,8 +99,8 @@ module _ (f : Field) (v : ℕ) (inside : Inside f) (few : v < 2 ^ f.width) where
   filled_high true i le lt =
       let e : i ≡ f.width + (i - f.width) = omega arith in
       ap (λ j. bit j ((2 ^ (36 - f.width) - 1) * 2 ^ f.width + v)) e ∙ of_high (i - f.width) 1 f.width (2 ^ (36 - f.width) - 1) v few
-      ∙ ones_bit (36 - f.width) (i - f.width) (omega arith)
-  filled_high false i le lt = above_all i f.width v few le
+      ∙ bit_at_ones (36 - f.width) (i - f.width) (omega arith)
+  filled_high false i le lt = bit_at_above v f.width i few le
 
   -- the sign of a field is its leftmost bit
   sign_bit : cond (negative f.width v) 1 0 ≡ bit (f.width - 1) v
@@ -142,19 +133,9 @@ read_gives f w h =
     }
 
 -- a number of the field's width, moved to the field, loses nothing among 64 bits
-pub moved_whole : (f : Field) (x : ℕ) → Inside f → x < 2 ^ f.width → x * 2 ^ f.start % 2 ^ 64 ≡ x * 2 ^ f.start
-moved_whole f x h lt = let within = h.within in shl_exact {a = x} f.width f.start 64 lt (omega arith)
+moved_whole : (f : Field) (x : ℕ) → Inside f → x % 2 ^ f.width * 2 ^ f.start % 2 ^ 64 ≡ x % 2 ^ f.width * 2 ^ f.start
+moved_whole f x h = let within = h.within in shl_exact {a = x % 2 ^ f.width} f.width f.start 64 (mod-lt x (pow_pos f.width)) (omega arith)
 
 -- as the code computes it
-module _ (f : Field) (w v number ones : ℕ) (inside : Inside f) (is_number : number ≡ bits_at f.start f.width w) (is_ones : ones ≡ 2 ^ f.width - 1) where
-  pub taken_by_code : number * 2 ^ f.start % 2 ^ 64 ≡ bits_at f.start f.width w * 2 ^ f.start
-  taken_by_code =
-      ap (λ x. x * 2 ^ f.start % 2 ^ 64) is_number ∙ moved_whole f (bits_at f.start f.width w) inside (mod-lt (w / 2 ^ f.start) (pow_pos f.width))
-
-  pub put_by_code : bit_and v ones * 2 ^ f.start % 2 ^ 64 ≡ v % 2 ^ f.width * 2 ^ f.start
-  put_by_code =
-      ap (λ x. bit_and v x * 2 ^ f.start % 2 ^ 64) is_ones ∙ ap (λ x. x * 2 ^ f.start % 2 ^ 64) (and_mask v f.width)
-      ∙ moved_whole f (v % 2 ^ f.width) inside (mod-lt v (pow_pos f.width))
-
-  pub stored_by_code : w - number * 2 ^ f.start % 2 ^ 64 + bit_and v ones * 2 ^ f.start % 2 ^ 64 ≡ stored f w v
-  stored_by_code = λ i. w - taken_by_code i + put_by_code i
+pub stored_by_code : (f : Field) (w v : ℕ) → Inside f → w - bits_at f.start f.width w * 2 ^ f.start % 2 ^ 64 + bit_and v (2 ^ f.width - 1) * 2 ^ f.start % 2 ^ 64 ≡ stored f w v
+stored_by_code f w v inside = rw (and_mask v f.width, moved_whole f (w / 2 ^ f.start) inside, moved_whole f v inside)

@@ -4,4 +4,4 @@ pub mod FieldLaws
 pub mod Octal
 pub mod ShiftLaws
 pub mod SumLaws
-pub mod Tables
+pub mod Widths

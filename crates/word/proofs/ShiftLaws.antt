@@ -1,17 +1,18 @@
 -- What the shifts give: the numbers that the code computes, and the bits. Assumes nothing.
 use Rattle.std.proofs.Common.{◌≡◌, ℕ, suc, ◌+◌, ◌-◌, ◌*◌, ◌/◌, ◌%◌, ◌^◌, ◌<◌, ◌≤◌, min, Bool, true, false, cond, ◌⊎◌, sym, refl, ap, ◌∙◌, subst, inl, inr, ⊎_elim, add-zero, mod-lt, mul_assoc, add_comm, pow-suc, arith, pow_pos, pow_mono, pow-add, shr_lt}
-use native.Mathlib.Nat.{div-eq_of_lt, mul-mod_left, zero-div, div-eq_of_lt-le}
+use native.Mathlib.Nat.{div-eq_of_lt, mul-mod_left, div-eq_of_lt-le}
 use lib.Arith.{digits_lt, mod-mul}
 use lib.Bits.{bit_and}
 use lib.Count.{count_leading_zeros, leading_le, leading_length, leading_unique}
-use lib.Pow.{shl-shr, mod-mod-pow, high_ones, ones_lt, shr_le}
+use lib.Pow.{shl-shr, mod-mod-pow, high_ones}
 use Rattle.std.proofs.lemmas.Nat.{and_mask}
-use Rattle.std.proofs.lemmas.Bool.{cases_lt, cond_both}
+use Rattle.std.proofs.lemmas.Nat.Bits.{bit_at_above, bit_at_ones, ones_shr, same_from_bits_below}
+use Rattle.std.proofs.lemmas.Bool.{cases_lt}
 use Rattle.std.proofs.lemmas.Bool.Decides.{nat_tests}
 use Rattle.word.specs.Bits.{bit}
 use Rattle.word.specs.Shifts.{turned, left_circular, right_circular, left_logical, right_logical, right_algebraic, LeftCircularBits, RightCircularBits, LeftLogicalBits, RightLogicalBits, RightAlgebraicBits, turn_count, LeastTurn, Unlike}
 use Rattle.word.specs.Sums.{modulus, negative, magnitude}
-use Rattle.word.proofs.Bitwise.{low_end, high_end, of_low, of_high, above_all, behind, complement_high, complement_bit, ones_bit, same_bits}
+use Rattle.word.proofs.Bitwise.{low_end, high_end, of_low, of_high, behind, complement_bit}
 
 -- the lower q bits moved up by p, at p + q places
 moved_up : (p q w : ℕ) → w * 2 ^ p % 2 ^ (q + p) ≡ w % 2 ^ q * 2 ^ p
@@ -40,7 +41,7 @@ module _ (p w : ℕ) (places : p ≤ 36) (word : w < 2 ^ 36) where
       ∙ subst (λ k. w * 2 ^ p % 2 ^ k ≡ w % 2 ^ (36 - p) * 2 ^ p) ends (moved_up p (36 - p) w)
 
   -- bit i goes to i + p, round the end
-  pub turned_bits : (i : ℕ) → i < 36 → bit ((i + p) % 36) (turned p w) ≡ bit i w
+  turned_bits : (i : ℕ) → i < 36 → bit ((i + p) % 36) (turned p w) ≡ bit i w
   turned_bits i h =
       ⊎_elim
       (λ (lt : i + p < 36).
@@ -67,13 +68,13 @@ right_circular_moves n w h i lt =
 pub left_undone : (n w : ℕ) → w < 2 ^ 36 → right_circular n (left_circular n w) ≡ w
 left_undone n w h =
     let t = turned_fits (n % 36) w (omega arith) h in
-    same_bits 36 (right_circular n (left_circular n w)) w (turned_fits (36 - n % 36) (left_circular n w) (omega arith) t) h
+    same_from_bits_below 36 (right_circular n (left_circular n w)) w (turned_fits (36 - n % 36) (left_circular n w) (omega arith) t) h
     (λ i lt. right_circular_moves n (left_circular n w) t i lt ∙ left_circular_moves n w h i lt)
 
 pub right_undone : (n w : ℕ) → w < 2 ^ 36 → left_circular n (right_circular n w) ≡ w
 right_undone n w h =
     let t = turned_fits (36 - n % 36) w (omega arith) h in
-    same_bits 36 (left_circular n (right_circular n w)) w (turned_fits (n % 36) (right_circular n w) (omega arith) t) h
+    same_from_bits_below 36 (left_circular n (right_circular n w)) w (turned_fits (n % 36) (right_circular n w) (omega arith) t) h
     (λ i lt.
     let j = (i + (36 - n % 36)) % 36 in
     let e : i ≡ (j + n) % 36 = omega arith in
@@ -93,7 +94,7 @@ gone n w h =
     ap (λ k. w / 2 ^ k) e ∙ div-eq_of_lt h ∙ sym (div-eq_of_lt (omega (arith, pow_mono le))))
     (cases_lt n 36)
 
-pub gone_left : (n w : ℕ) → w * 2 ^ min n 36 % 2 ^ 36 ≡ w * 2 ^ n % 2 ^ 36
+gone_left : (n w : ℕ) → w * 2 ^ min n 36 % 2 ^ 36 ≡ w * 2 ^ n % 2 ^ 36
 gone_left n w =
     ⊎_elim
     (λ (lt : n < 36). let e : min n 36 ≡ n = omega arith in ap (λ k. w * 2 ^ k % 2 ^ 36) e)
@@ -104,12 +105,16 @@ gone_left n w =
     ∙ sym (ap (λ k. w * 2 ^ k % 2 ^ 36) d ∙ ap (λ y. w * y % 2 ^ 36) (pow-add 2 (n - 36) 36) ∙ ap (λ y. y % 2 ^ 36) (sym (mul_assoc w (2 ^ (n - 36)) (2 ^ 36))) ∙ mul-mod_left (w * 2 ^ (n - 36)) (2 ^ 36)))
     (cases_lt n 36)
 
+-- as the code computes it
+pub left_by_mask : (n w : ℕ) → bit_and (w * 2 ^ min n 36 % 2 ^ 64) (2 ^ 36 - 1) ≡ left_logical n w
+left_by_mask n w = and_mask (w * 2 ^ min n 36 % 2 ^ 64) 36 ∙ mod-mod-pow (w * 2 ^ min n 36) 28 36 ∙ gone_left n w
+
 pub left_logical_moves : (n w : ℕ) → LeftLogicalBits n w (left_logical n w)
 left_logical_moves n w = record {
   moved = λ i h. low_end (i + n) 1 36 (w * 2 ^ n) (omega arith) ∙ ap (λ j. bit j (w * 2 ^ n)) (add_comm i n) ∙ sym (high_end i 1 n (w * 2 ^ n)) ∙ ap (bit i) (shl-shr w n);
   zeros = λ i h. ⊎_elim
       (λ (lt : i < 36). low_end i 1 36 (w * 2 ^ n) (omega arith) ∙ behind i n w h)
-      (λ (le : 36 ≤ i). above_all i 36 (w * 2 ^ n % 2 ^ 36) (mod-lt (w * 2 ^ n) (pow_pos 36)) le)
+      (λ (le : 36 ≤ i). bit_at_above (w * 2 ^ n % 2 ^ 36) 36 i (mod-lt (w * 2 ^ n) (pow_pos 36)) le)
       (cases_lt i 36);
 }
 
@@ -123,10 +128,7 @@ signs w h =
 
 -- the ones that come in for a sign
 sign_fill : (p : ℕ) → p ≤ 36 → 2 ^ 36 - 1 - (2 ^ 36 - 1) / 2 ^ p ≡ 2 ^ 36 - 2 ^ (36 - p)
-sign_fill p h =
-    let e : (36 - p) + p ≡ 36 = omega arith in
-    let d = subst (λ k. 0 < 2 ^ k → (2 ^ k - 1 - 0) / 2 ^ p ≡ 2 ^ (36 - p) - 1 - 0 / 2 ^ p) e (complement_high (36 - p) p 0) (pow_pos 36) in
-    omega (arith, d, zero-div (2 ^ p), pow_pos (36 - p))
+sign_fill p h = omega (arith, ones_shr 36 p h, pow_pos (36 - p))
 
 module _ (n w : ℕ) (word : w < 2 ^ 36) where
   lowered : w / 2 ^ min n 36 < 2 ^ (36 - min n 36)
@@ -141,15 +143,6 @@ module _ (n w : ℕ) (word : w < 2 ^ 36) where
       let f : 36 - n ≡ 36 - min n 36 = omega arith in
       let t = subst (λ k. 2 ^ k - 2 ^ (36 - min n 36) ≡ (2 ^ min n 36 - 1) * 2 ^ (36 - min n 36)) e (high_ones (min n 36) (36 - min n 36)) in
       (λ i. cond (negative 36 w) ((ap (λ k. 2 ^ 36 - 2 ^ k) f ∙ t) i) 0 + sym (gone n w word) i)
-
-  pub right_algebraic_fits : right_algebraic n w < 2 ^ 36
-  right_algebraic_fits =
-      let p = min n 36 in
-      let e : p + (36 - p) ≡ 36 = omega arith in
-      let top : (2 ^ p - 1) * 2 ^ (36 - p) + w / 2 ^ p < 2 ^ p * 2 ^ (36 - p) = digits_lt (ones_lt p) lowered in
-      let whole : 2 ^ p * 2 ^ (36 - p) ≡ 2 ^ 36 = sym (pow-add 2 p (36 - p)) ∙ ap (λ k. 2 ^ k) e in
-      let small = shr_le w p in
-      subst (λ r. r < 2 ^ 36) (sym ones_on_top) (cond_both (negative 36 w) ((2 ^ p - 1) * 2 ^ (36 - p)) 0 (λ x. x + w / 2 ^ p < 2 ^ 36) (λ t. omega arith) (λ t. omega arith))
 
   -- as the code computes it
   pub by_signs : (signs : ℕ) → signs ≡ cond (negative 36 w) (2 ^ 36 - 1) 0 → signs - signs / 2 ^ min n 36 + w / 2 ^ min n 36 ≡ right_algebraic n w
@@ -167,7 +160,7 @@ module _ (n w : ℕ) (word : w < 2 ^ 36) where
       let r : right_algebraic n w ≡ w / 2 ^ n = ap (λ b. cond b (2 ^ 36 - 2 ^ (36 - n)) 0 + w / 2 ^ n) s.1 ∙ omega arith in
       ap (bit i) r ∙ right_logical_moves n w i ∙ ⊎_elim
       (λ (lt : i + n < 36). let e : i + n ≡ min (i + n) 35 = omega arith in ap (λ j. bit j w) e)
-      (λ (le : 36 ≤ i + n). let e : 35 ≡ min (i + n) 35 = omega arith in above_all (i + n) 36 w word le ∙ sym s.2 ∙ ap (λ j. bit j w) e)
+      (λ (le : 36 ≤ i + n). let e : 35 ≡ min (i + n) 35 = omega arith in bit_at_above w 36 (i + n) word le ∙ sym s.2 ∙ ap (λ j. bit j w) e)
       (cases_lt (i + n) 36))
       (λ s.
       let hi = 2 ^ min n 36 - 1 in
@@ -180,7 +173,7 @@ module _ (n w : ℕ) (word : w < 2 ^ 36) where
       (λ (le : 36 ≤ i + n).
       let e : i ≡ k + (i - k) = omega arith in
       let f : 35 ≡ min (i + n) 35 = omega arith in
-      ap (λ j. bit j (hi * 2 ^ k + w / 2 ^ min n 36)) e ∙ of_high (i - k) 1 k hi (w / 2 ^ min n 36) lowered ∙ ones_bit (min n 36) (i - k) (omega arith) ∙ sym s.2 ∙ ap (λ j. bit j w) f)
+      ap (λ j. bit j (hi * 2 ^ k + w / 2 ^ min n 36)) e ∙ of_high (i - k) 1 k hi (w / 2 ^ min n 36) lowered ∙ bit_at_ones (min n 36) (i - k) (omega arith) ∙ sym s.2 ∙ ap (λ j. bit j w) f)
       (cases_lt (i + n) 36))
       (signs w word)
 
@@ -209,7 +202,7 @@ module _ (w : ℕ) (word : w < 2 ^ 36) where
   like j h z =
       ⊎_elim
       (λ s. ap (bit j) s.0 ∙ z ∙ sym s.1)
-      (λ s. ap (bit j) s.0 ∙ complement_bit 36 j (magnitude 36 w) h (omega (arith, small)) ∙ ap (λ x. 1 - x) z ∙ sym s.1)
+      (λ s. ap (bit j) s.0 ∙ complement_bit j (magnitude 36 w) h (omega (arith, small)) ∙ ap (λ x. 1 - x) z ∙ sym s.1)
       (by_magnitude w word)
 
   unlike : (j : ℕ) → j < 36 → bit j (magnitude 36 w) ≡ 1 → bit 35 w ≡ bit j w → ⊥
@@ -217,7 +210,7 @@ module _ (w : ℕ) (word : w < 2 ^ 36) where
       ⊎_elim
       (λ s. let e : bit j w ≡ 1 = ap (bit j) s.0 ∙ o in omega (arith, e, s.1, same))
       (λ s.
-      let e : bit j w ≡ 0 = ap (bit j) s.0 ∙ complement_bit 36 j (magnitude 36 w) h (omega (arith, small)) ∙ ap (λ x. 1 - x) o in
+      let e : bit j w ≡ 0 = ap (bit j) s.0 ∙ complement_bit j (magnitude 36 w) h (omega (arith, small)) ∙ ap (λ x. 1 - x) o in
       omega (arith, e, s.1, same))
       (by_magnitude w word)
 
@@ -235,8 +228,8 @@ module _ (w : ℕ) (word : w < 2 ^ 36) where
   module _ (m : ℕ) (bits : turn_count w + m ≡ 35) (fits : magnitude 36 w < 2 ^ m) (takes : 2 ^ m ≤ 2 * magnitude 36 w + 1) where
     least : (k : ℕ) → k < turn_count w → bit 35 (left_circular k w) ≡ bit 34 (left_circular k w)
     least k h =
-        first k (omega arith) ∙ like (35 - k) (omega arith) (above_all (35 - k) m _ fits (omega arith))
-        ∙ sym (second k (omega arith) ∙ like (34 - k) (omega arith) (above_all (34 - k) m _ fits (omega arith)))
+        first k (omega arith) ∙ like (35 - k) (omega arith) (bit_at_above _ m (35 - k) fits (omega arith))
+        ∙ sym (second k (omega arith) ∙ like (34 - k) (omega arith) (bit_at_above _ m (34 - k) fits (omega arith)))
 
     all_alike : m ≡ 0 → (w ≡ 0) ⊎ (w ≡ modulus 36)
     all_alike e =
@@ -247,7 +240,7 @@ module _ (w : ℕ) (word : w < 2 ^ 36) where
     two_differ h same =
         let n = turn_count w in
         let e : m ≡ suc (34 - n) = omega arith in
-        let a : bit 35 w ≡ bit (35 - n) w = sym (like (35 - n) (omega arith) (above_all (35 - n) m _ fits (omega arith))) in
+        let a : bit 35 w ≡ bit (35 - n) w = sym (like (35 - n) (omega arith) (bit_at_above _ m (35 - n) fits (omega arith))) in
         unlike (34 - n) (omega arith) (leading_one m _ fits takes (34 - n) e)
         (a ∙ sym (first n (omega arith)) ∙ same ∙ second n (omega arith))
 

@@ -8,9 +8,9 @@
 --   reading bs      what bs reads as: the number of a word, or why it is none
 --   number_of r     the same result, with the number in place of the word
 --   explanation e   the text that says why
-use Rattle.std.specs.Prelude.{ℕ, zero, suc, ◌+◌, ◌-◌, ◌*◌, ◌/◌, ◌%◌, ◌^◌, min, Bool, cond, ◌&&◌, List, [], ◌∷◌, ◌++◌, length, Ok, Err, codes, decimal, Result, nat_le, nat_lt}
+use Rattle.std.specs.Prelude.{ℕ, zero, suc, ◌+◌, ◌-◌, ◌*◌, ◌/◌, ◌%◌, ◌^◌, min, Bool, if◌then◌else◌, ◌&&◌, List, [], ◌∷◌, ◌++◌, length, Ok, Err, codes, decimal, Result, nat_le, nat_lt}
 use Rattle.std.specs.List.{prefix_len}
-use Rattle.word.specs.declared.words.Word.{Word}
+use Rattle.word.specs.Words.{Word}
 use Rattle.word.specs.declared.digits.DigitsError.{DigitsError}
 use Rattle.word.specs.declared.digits.DigitsError.TheVariants.{NotOctal, TooShort, TooLong}
 
@@ -37,10 +37,10 @@ number bs = number_after 0 bs
 
 abbrev pub reading : List ℕ → Result ℕ DigitsError
 reading bs =
-    cond (nat_lt (front bs) (min 12 (length bs))) (Err (NotOctal (front bs)))
-    (cond (nat_lt (length bs) 12) (Err (TooShort (length bs)))
-    (cond (nat_lt 12 (length bs)) (Err (TooLong (length bs)))
-    (Ok (number bs))))
+    if nat_lt (front bs) (min 12 (length bs)) then Err (NotOctal (front bs))
+    else if nat_lt (length bs) 12 then Err (TooShort (length bs))
+    else if nat_lt 12 (length bs) then Err (TooLong (length bs))
+    else Ok (number bs)
 
 abbrev pub number_of : Result Word DigitsError → Result ℕ DigitsError
 number_of (Ok w) = Ok w.bits

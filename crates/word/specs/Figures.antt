@@ -5,7 +5,7 @@
 use Rattle.std.specs.Prelude.{◌≡◌, ℕ, true, false}
 use Rattle.word.specs.declared.figures.Figures.{Figures}
 use Rattle.word.specs.declared.sums.Sum.{Sum}
-use Rattle.word.specs.declared.words.Word.{Word}
+use Rattle.word.specs.Words.{Word}
 use Rattle.word.specs.Adding.{full_sum}
 use Rattle.word.specs.Parts.{field, read}
 use Rattle.word.specs.Shifts.{left_circular, right_algebraic, right_circular, turn_count}

@@ -1,4 +1,6 @@
 -- Shifts of a word w by n places: the number that each gives, and the same said bit by bit of a result r.
+--   Count                     a count of places, from 0 to 72
+--   places c                  how many places the count c is
 --   turned p w                w turned left by p places, at most 36: the lower 36 - p bits move up, the upper p come in at the right
 --   right_circular n w, left_circular n w   the bits that leave at one end come in at the other
 --   right_logical n w, left_logical n w     zeros come in
@@ -7,10 +9,17 @@
 --   Unlike w                  the two leftmost bits of w differ
 --   turn_count w              how many bits right of the sign are like it, before the first that is not
 --   LeastTurn w r n           r is w turned left by n places, the least number that brings unlike bits to the left, or 35 where none does
-use Rattle.std.specs.Prelude.{◌≡◌, ℕ, ◌+◌, ◌-◌, ◌*◌, ◌/◌, ◌%◌, ◌^◌, ◌<◌, min, cond, ◌⊎◌}
+use Rattle.std.specs.Prelude.{◌≡◌, ℕ, ◌+◌, ◌-◌, ◌*◌, ◌/◌, ◌%◌, ◌^◌, ◌<◌, min, if◌then◌else◌, ◌⊎◌, ◌≢◌}
 use Rattle.std.specs.Int.Count.{count_leading_zeros}
+use Rattle.word.specs.declared.up_to.UpTo.{UpTo}
 use Rattle.word.specs.Bits.{bit}
 use Rattle.word.specs.Sums.{modulus, magnitude, negative}
+
+abbrev pub Count : Type 0
+Count = UpTo 72
+
+abbrev pub places : Count → ℕ
+places c = c.number
 
 abbrev pub turned : ℕ → ℕ → ℕ
 turned p w = w % 2 ^ (36 - p) * 2 ^ p + w / 2 ^ (36 - p)
@@ -28,7 +37,7 @@ abbrev pub left_logical : ℕ → ℕ → ℕ
 left_logical n w = w * 2 ^ n % 2 ^ 36
 
 abbrev pub right_algebraic : ℕ → ℕ → ℕ
-right_algebraic n w = cond (negative 36 w) (2 ^ 36 - 2 ^ (36 - n)) 0 + w / 2 ^ n
+right_algebraic n w = (if negative 36 w then 2 ^ 36 - 2 ^ (36 - n) else 0) + w / 2 ^ n
 
 abbrev pub RightCircularBits : ℕ → ℕ → ℕ → Type 0
 RightCircularBits n w r = (i : ℕ) → i < 36 → bit i r ≡ bit ((i + n) % 36) w
@@ -47,7 +56,7 @@ abbrev pub RightAlgebraicBits : ℕ → ℕ → ℕ → Type 0
 RightAlgebraicBits n w r = (i : ℕ) → i < 36 → bit i r ≡ bit (min (i + n) 35) w
 
 abbrev pub Unlike : ℕ → Type 0
-Unlike w = bit 35 w ≡ bit 34 w → ⊥
+Unlike w = bit 35 w ≢ bit 34 w
 
 abbrev pub turn_count : ℕ → ℕ
 turn_count w = count_leading_zeros 35 (magnitude 36 w)

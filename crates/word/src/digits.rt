@@ -1,9 +1,13 @@
 // A word and its twelve octal digits.
 ghost use Rattle.std.specs.Prelude.{◌≡◌, ◌^◌, ◌<◌, length, IfOk, Some, Ok};
+ghost use Rattle.std.specs.Fmt.{styled_text};
 ghost use Rattle.word.specs.Digits.{word_digits, is_octal, front, number, reading, number_of, explanation};
 
 use crate::words::Word;
+use std::array::from_fn;
+use std::error::Error;
 use std::fmt;
+use std::str::{FromStr, from_utf8};
 
 /// How many octal digits a word has.
 pub const WORD_DIGITS: usize = 12;
@@ -22,19 +26,16 @@ pub enum DigitsError {
 fn is_octal(byte: u8) -> bool
     ensures { result ≡ is_octal byte }
 {
-    byte >= b'0' && byte <= b'7'
+    matches!(byte, b'0'..=b'7')
 }
 
 // How many octal digits the text begins with.
 fn digits_ahead(text: &[u8]) -> usize
     ensures { result ≡ front text.now }
 {
-    for (place, byte) in text.iter().enumerate() {
-        if !is_octal(*byte) {
-            return place;
-        }
-    }
-    text.len()
+    text.iter()
+        .position(|byte| !is_octal(*byte))
+        .unwrap_or(text.len())
 }
 
 // The number that twelve octal digits write.
@@ -53,17 +54,18 @@ fn number_written(text: &[u8]) -> u64
 
 impl Word {
     /// The twelve octal digits of the word, as bytes of text.
+    // A named function, since an array of bytes does not say that they are digits.
     pub fn digits(self) -> [u8; WORD_DIGITS]
         ensures value { result ≡ word_digits self.bits }
         ensures back { reading result ≡ Ok self.bits }
     {
-        let mut text = [b'0'; WORD_DIGITS];
-        let mut left = self.bits;
-        for place in (0..WORD_DIGITS).rev() {
-            text[place] = b'0' + (left % 8) as u8;
-            left /= 8;
-        }
-        text
+        let digit_at = |place: usize| -> u8
+            requires { place < 12 }
+        {
+            let behind = WORD_DIGITS - 1 - place;
+            b'0' + ((self.bits >> (3 * behind)) % 8) as u8
+        };
+        from_fn(digit_at)
     }
 
     /// The word that exactly twelve octal digits write.
@@ -86,15 +88,25 @@ impl Word {
     }
 }
 
+impl FromStr for Word {
+    type Err = DigitsError;
+
+    ghost from_str_gives = { λ text result. number_of result ≡ reading text };
+
+    fn from_str(text: &str) -> Result<Word, DigitsError> {
+        Word::from_digits(text.as_bytes())
+    }
+}
+
 impl fmt::Display for Word {
     ghost output = { λ w. Some (word_digits w.bits) };
 
+    ghost styled_output = { λ w spec. Some (styled_text spec (word_digits w.bits)) };
+
     fn fmt<W: fmt::Write>(&self, f: &mut fmt::Formatter<W>) -> fmt::Result {
         let digits = self.digits();
-        match std::str::from_utf8(&digits) {
-            Ok(text) => f.pad(text),
-            Err(_) => unreachable(),
-        }
+        let text = from_utf8(&digits).unwrap();
+        f.pad(text)
     }
 }
 
@@ -109,3 +121,5 @@ impl fmt::Display for DigitsError {
         }
     }
 }
+
+impl Error for DigitsError {}

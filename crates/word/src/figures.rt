@@ -8,7 +8,7 @@ use crate::sums::Sum;
 use crate::words::Word;
 
 /// What the code gives for each figure.
-#[derive(Clone, Copy)]
+#[derive(Clone, Copy, PartialEq, Eq, Debug)]
 pub struct Figures {
     pub address_to_zero: Half,
     pub address_past_minus_zero: Half,
@@ -28,7 +28,7 @@ pub fn worked_figures() -> Figures
     let minus_zero = Word::of_lowest(0o777777777777);
     let one = Word::of_lowest(1);
     let shifted = Word::of_lowest(0o765432101234);
-    let six = Count { places: 6 };
+    let six = Count { number: 6 };
     Figures {
         address_to_zero: Half::of_lowest(0o777776).plus(Half::of_lowest(1)),
         address_past_minus_zero: Half::of_lowest(0o777777).plus(Half::of_lowest(1)),
@@ -38,6 +38,6 @@ pub fn worked_figures() -> Figures
         right_six_circular: shifted.right_circular(six),
         right_six_algebraic: shifted.right_algebraic(six),
         one_turned: one.shift_and_count(),
-        upper_third: Word::of_lowest(0o400000000000).part(Part { j: 7 }),
+        upper_third: Word::of_lowest(0o400000000000).part(Part { number: 7 }),
     }
 }

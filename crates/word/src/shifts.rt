@@ -1,38 +1,22 @@
 // Shifts of one word by a count of places.
-ghost use Rattle.std.specs.Prelude.{◌≡◌, ◌+◌, ◌-◌, ◌%◌, ◌<◌, ◌≤◌, if◌then◌else◌, MatchOption};
-ghost use Rattle.word.specs.Shifts.{turned, right_circular, left_circular, right_logical, left_logical, right_algebraic, RightCircularBits, LeftCircularBits, RightLogicalBits, LeftLogicalBits, RightAlgebraicBits, turn_count, LeastTurn};
+ghost use Rattle.std.specs.Prelude.{◌≡◌, ◌≤◌, if◌then◌else◌};
+ghost use Rattle.word.specs.Shifts.{places, turned, right_circular, left_circular, right_logical, left_logical, right_algebraic, RightCircularBits, LeftCircularBits, RightLogicalBits, LeftLogicalBits, RightAlgebraicBits, turn_count, LeastTurn};
 ghost use Rattle.word.specs.Sums.{modulus, negative};
 
+use crate::up_to::UpTo;
 use crate::words::{ONES, WORD_BITS, Word};
 
 /// The largest count of places: twice round a word.
 const MOST_PLACES: u32 = 2 * WORD_BITS;
 
 /// How many bits of 64 stand above a magnitude, which has one bit less than a word.
-const ABOVE_MAGNITUDE: u32 = 64 - (WORD_BITS - 1);
+const ABOVE_MAGNITUDE: u32 = u64::BITS - (WORD_BITS - 1);
 
 /// How many places a shift moves the bits, 0 to 72.
-#[derive(Clone, Copy)]
-pub struct Count {
-    pub(crate) places: u32,
-    ghost few: { places ≤ 72 },
-}
-
-impl Count {
-    /// A count of places, or nothing above 72.
-    pub fn new(places: u32) -> Option<Count>
-        ensures { MatchOption result (72 < places) (λ c. c.places ≡ places) }
-    {
-        if places <= MOST_PLACES {
-            Some(Count { places })
-        } else {
-            None
-        }
-    }
-}
+pub type Count = UpTo<MOST_PLACES>;
 
 /// A word that was turned, and by how many places.
-#[derive(Clone, Copy)]
+#[derive(Clone, Copy, PartialEq, Eq, Debug)]
 pub struct Counted {
     pub word: Word,
     pub count: u32,
@@ -41,48 +25,48 @@ pub struct Counted {
 impl Word {
     /// The bits move right, and those that leave come in at the left.
     pub fn right_circular(self, count: Count) -> Word
-        ensures value { result.bits ≡ right_circular count.places self.bits }
-        ensures bits { RightCircularBits count.places self.bits result.bits }
-        ensures back { left_circular count.places result.bits ≡ self.bits }
+        ensures value { result.bits ≡ right_circular (places count) self.bits }
+        ensures bits { RightCircularBits (places count) self.bits result.bits }
+        ensures back { left_circular (places count) result.bits ≡ self.bits }
     {
-        self.turned_left(WORD_BITS - count.places % WORD_BITS)
+        self.turned_left(WORD_BITS - count.number % WORD_BITS)
     }
 
     /// The bits move left, and those that leave come in at the right.
     pub fn left_circular(self, count: Count) -> Word
-        ensures value { result.bits ≡ left_circular count.places self.bits }
-        ensures bits { LeftCircularBits count.places self.bits result.bits }
-        ensures back { right_circular count.places result.bits ≡ self.bits }
+        ensures value { result.bits ≡ left_circular (places count) self.bits }
+        ensures bits { LeftCircularBits (places count) self.bits result.bits }
+        ensures back { right_circular (places count) result.bits ≡ self.bits }
     {
-        self.turned_left(count.places % WORD_BITS)
+        self.turned_left(count.number % WORD_BITS)
     }
 
     /// The bits move right, and zeros come in at the left.
     pub fn right_logical(self, count: Count) -> Word
-        ensures value { result.bits ≡ right_logical count.places self.bits }
-        ensures bits { RightLogicalBits count.places self.bits result.bits }
+        ensures value { result.bits ≡ right_logical (places count) self.bits }
+        ensures bits { RightLogicalBits (places count) self.bits result.bits }
     {
         Word {
-            bits: self.bits >> count.places.min(WORD_BITS),
+            bits: self.bits >> count.number.min(WORD_BITS),
         }
     }
 
     /// The bits move left, and zeros come in at the right.
     pub fn left_logical(self, count: Count) -> Word
-        ensures value { result.bits ≡ left_logical count.places self.bits }
-        ensures bits { LeftLogicalBits count.places self.bits result.bits }
+        ensures value { result.bits ≡ left_logical (places count) self.bits }
+        ensures bits { LeftLogicalBits (places count) self.bits result.bits }
     {
         Word {
-            bits: (self.bits << count.places.min(WORD_BITS)) & ONES,
+            bits: (self.bits << count.number.min(WORD_BITS)) & ONES,
         }
     }
 
     /// The bits move right, and bits like the sign come in at the left.
     pub fn right_algebraic(self, count: Count) -> Word
-        ensures value { result.bits ≡ right_algebraic count.places self.bits }
-        ensures bits { RightAlgebraicBits count.places self.bits result.bits }
+        ensures value { result.bits ≡ right_algebraic (places count) self.bits }
+        ensures bits { RightAlgebraicBits (places count) self.bits result.bits }
     {
-        let places = count.places.min(WORD_BITS);
+        let places = count.number.min(WORD_BITS);
         let signs = self.signs();
         Word {
             bits: (signs - (signs >> places)) + (self.bits >> places),
@@ -109,12 +93,12 @@ impl Word {
         if self.is_negative() { ONES } else { 0 }
     }
 
-    fn turned_left(self, places: u32) -> Word
-        requires { places ≤ 36 }
-        ensures { result.bits ≡ turned places self.bits }
+    fn turned_left(self, by: u32) -> Word
+        requires { by ≤ 36 }
+        ensures { result.bits ≡ turned by self.bits }
     {
         Word {
-            bits: ((self.bits << places) & ONES) + (self.bits >> (WORD_BITS - places)),
+            bits: ((self.bits << by) & ONES) + (self.bits >> (WORD_BITS - by)),
         }
     }
 }

@@ -1,38 +1,17 @@
-// Sums in ones' complement, at any width.
-ghost use Rattle.std.specs.Prelude.{◌≡◌, ◌^◌, ◌<◌};
-ghost use Rattle.word.specs.Adding.{full_sum};
-ghost use Rattle.word.specs.Sums.{modulus, sum, complement, negative, magnitude, carries, overflows, value, greater};
+// Sums, signs and signed values of words, and sums of halves.
+ghost use Rattle.std.specs.Prelude.{◌≡◌};
+ghost use Rattle.word.specs.Sums.{modulus, sum, complement, negative, magnitude, carries, overflows, value};
 
+use crate::adder::Adder;
 use crate::halves::{HALF_BITS, Half};
 use crate::words::{ONES, WORD_BITS, Word};
 
 /// A sum, with the two designators that it sets.
-#[derive(Clone, Copy)]
+#[derive(Clone, Copy, PartialEq, Eq, Debug)]
 pub struct Sum<N> {
     pub total: N,
     pub carry: bool,
     pub overflow: bool,
-}
-
-/// The sum of two numbers of a width, in ones' complement: the one adder behind every sum.
-pub(crate) fn add_at_width(width: u32, a: u64, b: u64) -> Sum<u64>
-    requires some { 0 < width }
-    requires few { width < 64 }
-    requires a_fits { a < 2 ^ width }
-    requires b_fits { b < 2 ^ width }
-    ensures { result ≡ full_sum width a b }
-{
-    let modulus = (1u64 << width) - 1;
-    let sign = 1u64 << (width - 1);
-    let plain = a + b;
-    let carry = plain >= modulus;
-    let total = if carry { plain - modulus } else { plain };
-    let overflow = (a >= sign) == (b >= sign) && (a >= sign) != (total >= sign);
-    Sum {
-        total,
-        carry,
-        overflow,
-    }
 }
 
 impl Word {
@@ -42,7 +21,7 @@ impl Word {
         ensures carry { result.carry ≡ carries (modulus 36) self.bits other.bits }
         ensures overflow { result.overflow ≡ overflows 36 self.bits other.bits }
     {
-        let sum = add_at_width(WORD_BITS, self.bits, other.bits);
+        let sum = Adder { width: WORD_BITS }.sum(self.bits, other.bits);
         Sum {
             total: Word { bits: sum.total },
             carry: sum.carry,
@@ -87,27 +66,23 @@ impl Word {
             self.bits as i64
         }
     }
+}
 
-    /// Whether this word stands above another: one without sign above one with it, else the larger number; +0 above -0.
-    pub fn is_greater(self, other: Word) -> bool
-        ensures { result ≡ greater 36 self.bits other.bits }
-    {
-        if self.is_negative() == other.is_negative() {
-            self.bits > other.bits
-        } else {
-            other.is_negative()
-        }
+/// The signed value.
+impl From<Word> for i64 {
+    ghost from_gives = { λ word r. r ≡ value 36 word.bits };
+
+    fn from(word: Word) -> i64 {
+        word.value()
     }
 }
 
 impl Half {
-    /// The sum of two halves, as addresses are full-sum.
+    /// The sum of two halves, as addresses are added.
     pub fn plus(self, other: Half) -> Half
         ensures { result.bits ≡ sum (modulus 18) self.bits other.bits }
     {
-        let sum = add_at_width(HALF_BITS, self.bits as u64, other.bits as u64);
-        Half {
-            bits: sum.total as u32,
-        }
+        let sum = Adder { width: HALF_BITS }.sum(self.bits, other.bits);
+        Half { bits: sum.total }
     }
 }

@@ -1,31 +1,25 @@
 // Octal digits: twelve of them are a word, and every other text is refused with its place.
 use std::test::Fail;
-use word::{DigitsError, Word};
+use word::{DigitsError, OutOfRange, Word};
 
 #[test]
 fn twelve_digits(rt: HostRuntime) -> Result<(), Fail> {
-    let texts = [
-        b"000000000000",
-        b"765432101234",
-        b"400000000000",
-        b"777777777777",
+    let cases = [
+        (b"000000000000", 0),
+        (b"765432101234", 0o765432101234),
+        (b"400000000000", 0o400000000000),
+        (b"777777777777", 0o777777777777),
     ];
-    let numbers = [0, 0o765432101234, 0o400000000000, 0o777777777777];
-    for (text, number) in texts.iter().zip(numbers.iter()) {
-        let Ok(word) = Word::from_digits(*text) else {
-            return Err(Fail::new("twelve octal digits refused"));
-        };
-        assert_eq!(rt; word.number(), *number);
-        assert!(rt; word.digits() == **text);
+    for (text, number) in cases {
+        let word = Word::from_digits(text)?;
+        assert_eq!(rt; word.number(), number);
+        assert!(rt; word.digits() == *text);
     }
     Ok(())
 }
 
 fn refusal(text: &[u8]) -> Option<DigitsError> {
-    match Word::from_digits(text) {
-        Ok(_) => None,
-        Err(error) => Some(error),
-    }
+    Word::from_digits(text).err()
 }
 
 #[test]
@@ -41,6 +35,11 @@ fn other_texts(rt: HostRuntime) {
 }
 
 #[test]
+fn parsed(rt: HostRuntime) {
+    assert!(rt; "000000001234".parse::<Word>() == Ok(Word::of_lowest(0o1234)));
+}
+
+#[test]
 fn printed(rt: HostRuntime) -> Result<(), Fail> {
     let heap = rt.alloc();
     let word = Word::of_lowest(0o1234);
@@ -51,5 +50,8 @@ fn printed(rt: HostRuntime) -> Result<(), Fail> {
     assert!(rt; format!(in heap; "{error}")?.as_str() == "3 digits where 12 are wanted");
     let error = DigitsError::TooLong(13);
     assert!(rt; format!(in heap; "{error}")?.as_str() == "13 bytes where 12 are wanted");
+    let error = OutOfRange;
+    assert!(rt; format!(in heap; "{error}")?.as_str() == "number out of range");
+    assert!(rt; format!(in heap; "{word:>14}")?.as_str() == "  000000001234");
     Ok(())
 }

@@ -23,9 +23,8 @@ fn read_and_stored(rt: HostRuntime) -> Result<(), Fail> {
     let word = Word::of_lowest(0o765432101234);
     let value = Word::of_lowest(0o112233445566);
     for (j, read, stored) in cases {
-        let Some(part) = Part::new(j) else {
-            return Err(Fail::new("no such part"));
-        };
+        let part = Part::try_from(j)?;
+        assert_eq!(rt; u32::from(part), j);
         assert_eq!(rt; word.part(part).number(), read);
         assert_eq!(rt; word.with_part(part, value).number(), stored);
     }

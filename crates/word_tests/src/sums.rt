@@ -2,14 +2,9 @@
 // machine's printed examples; the other sums are worked out by the rule, one for each combination of signs.
 use std::process::Abort;
 use std::test::Fail;
-use word::{Adder, Half, Word};
+use word::{Adder, Half, OutOfRange, Sum, Word};
 
 const MINUS_ZERO: u64 = 0o777777777777;
-
-fn check_designators(rt: &impl Abort, name: &'static str, carry: bool, overflow: bool) {
-    assert!(rt; carry, "carry; {name}");
-    assert!(rt; overflow, "overflow; {name}");
-}
 
 #[test]
 fn six_bit_adder(rt: HostRuntime) -> Result<(), Fail> {
@@ -27,19 +22,40 @@ fn six_bit_adder(rt: HostRuntime) -> Result<(), Fail> {
             false,
         ),
     ];
-    let Some(adder) = Adder::new(6) else {
-        return Err(Fail::new("no adder of six bits"));
-    };
+    let adder = Adder::new(6).ok_or("no adder of six bits")?;
     for (name, a, b, total, carry, overflow) in cases {
         let sum = adder.add(a, b).ok_or("an operand of more than six bits")?;
-        assert_eq!(rt; sum.total, total, "{name}");
-        check_designators(&rt, name, sum.carry == carry, sum.overflow == overflow);
+        let expected = Sum {
+            total,
+            carry,
+            overflow,
+        };
+        assert_eq!(rt; sum, expected, "{name}");
     }
     assert!(rt; adder.add(0b1000000, 0).is_none());
     assert!(rt; adder.add(0, 0b1000000).is_none());
     assert!(rt; Adder::new(0).is_none());
     assert!(rt; Adder::new(64).is_none());
     Ok(())
+}
+
+// Each case is a name, two operands, and what comes of them.
+fn check_words<F: Fn(Word, Word) -> Sum<Word>>(
+    rt: &impl Abort,
+    cases: &[(&'static str, u64, u64, u64, bool, bool)],
+    sum_of: F,
+)
+    requires { F.IsAlwaysCallable sum_of }
+{
+    for &(name, a, b, total, carry, overflow) in cases {
+        let sum = sum_of(Word::of_lowest(a), Word::of_lowest(b));
+        let expected = Sum {
+            total: Word::of_lowest(total),
+            carry,
+            overflow,
+        };
+        assert_eq!(rt; sum, expected, "{name}");
+    }
 }
 
 #[test]
@@ -79,11 +95,7 @@ fn word_sums(rt: HostRuntime) {
         ("1 less 1", 1, 0o777777777776, 0, true, false),
         ("+0 less 1", 0, 0o777777777776, 0o777777777776, false, false),
     ];
-    for (name, a, b, total, carry, overflow) in cases {
-        let sum = Word::of_lowest(a).plus(Word::of_lowest(b));
-        assert_eq!(rt; sum.total.number(), total, "{name}");
-        check_designators(&rt, name, sum.carry == carry, sum.overflow == overflow);
-    }
+    check_words(&rt, &cases, |a, b| a.plus(b));
 }
 
 #[test]
@@ -106,11 +118,7 @@ fn word_differences(rt: HostRuntime) {
         ("-3 - -5", 0o777777777774, 0o777777777772, 2, true, false),
         ("-3 - 5", 0o777777777774, 5, 0o777777777767, true, false),
     ];
-    for (name, a, b, total, carry, overflow) in cases {
-        let sum = Word::of_lowest(a).plus(Word::of_lowest(b).complement());
-        assert_eq!(rt; sum.total.number(), total, "{name}");
-        check_designators(&rt, name, sum.carry == carry, sum.overflow == overflow);
-    }
+    check_words(&rt, &cases, |a, b| a.plus(b.complement()));
 }
 
 #[test]
@@ -132,7 +140,7 @@ fn address_sums(rt: HostRuntime) {
 fn signs_and_order(rt: HostRuntime) {
     let five = Word::of_lowest(5);
     let minus_five = Word::of_lowest(0o777777777772);
-    assert_eq!(rt; five.complement().number(), minus_five.number());
+    assert_eq!(rt; five.complement(), minus_five);
     assert_eq!(rt; five.value(), 5);
     assert_eq!(rt; minus_five.value(), -5);
     assert_eq!(rt; minus_five.magnitude().number(), 5);
@@ -146,7 +154,18 @@ fn signs_and_order(rt: HostRuntime) {
     assert!(rt; plus_zero.is_greater(minus_zero));
     assert!(rt; !minus_zero.is_greater(plus_zero));
     assert!(rt; five.is_greater(minus_five));
+    assert!(rt; plus_zero.max(minus_five) == plus_zero);
+    assert!(rt; minus_zero < plus_zero);
+}
+
+#[test]
+fn numbers_of_a_width(rt: HostRuntime) {
     assert!(rt; Word::new(1 << 36).is_none());
+    assert!(rt; Word::try_from(MINUS_ZERO) == Ok(Word::of_lowest(MINUS_ZERO)));
+    assert!(rt; Word::try_from(1 << 36) == Err(OutOfRange));
+    assert!(rt; Half::try_from(1 << 18) == Err(OutOfRange));
+    assert_eq!(rt; u64::from(Word::of_lowest(MINUS_ZERO)), MINUS_ZERO);
+    assert_eq!(rt; i64::from(Word::of_lowest(0o777777777772)), -5);
 }
 
 #[test]

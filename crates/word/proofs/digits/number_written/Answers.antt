@@ -1,29 +1,20 @@
 -- `number_written` meets its contract.
-use Rattle.std.proofs.Common.{◌≡◌, ◌+◌, ◌*◌, drop, sym, ap, ◌∙◌, arith}
+use Rattle.std.proofs.Common.{◌≡◌, ◌+◌, ◌-◌, ◌*◌, ◌<◌, ◌≤◌, ◌^◌, get_or, sym, ◌∙◌, arith}
 use Rattle.std.proofs.lemmas.List.{at_drop_all}
 use Rattle.word.specs.Digits.{number, number_after}
 use Rattle.word.proofs.Octal.{digit_read, number_small}
 use Rattle.word.proofs.digits.number_written.Goals as goal
+use Rattle.word.proofs.digits.number_written.Goals.{In-loop-byte}
+
+-- with the next digit the number so far is not above the whole one, which is that of a word
+read : (c : In-loop-byte) → (c.loop-byte.total * 8 + (get_or c.args.text.now c.loop-byte.byte-index 0 - 48) ≤ number c.args.text.now) × (number c.args.text.now < 2 ^ 36)
+read c = (digit_read _ _ _ _ c.loop-byte-test.true c.loop-byte.invariant.0, number_small _ c.requires.digits c.requires.twelve)
 
 pub overflow_mul-total : goal.overflow_mul-total
-overflow_mul-total c =
-    let m = digit_read c.args.text.now c.loop-byte.byte-index c.loop-byte.total (number c.args.text.now) c.loop-byte-test.true c.loop-byte.invariant.0 c.loop-byte.invariant.1 in
-    let h = number_small c.args.text.now c.requires.digits c.requires.twelve in
-    omega (arith, m.bound)
-
-pub overflow_sub-byte : goal.overflow_sub-byte
-overflow_sub-byte c = (digit_read c.args.text.now c.loop-byte.byte-index c.loop-byte.total (number c.args.text.now) c.loop-byte-test.true c.loop-byte.invariant.0 c.loop-byte.invariant.1).low
+overflow_mul-total c = let m = read (goal.at.overflow_mul-total c).In-loop-byte in omega arith
 
 pub overflow_add-total : goal.overflow_add-total
-overflow_add-total c =
-    let m = digit_read c.args.text.now c.loop-byte.byte-index c.loop-byte.total (number c.args.text.now) c.loop-byte-test.true c.loop-byte.invariant.0 c.loop-byte.invariant.1 in
-    let h = number_small c.args.text.now c.requires.digits c.requires.twelve in
-    omega (arith, m.bound)
-
-pub loop-byte-preserved : goal.loop-byte-preserved
-loop-byte-preserved c =
-    let m = digit_read c.args.text.now c.loop-byte.byte-index c.loop-byte.total (number c.args.text.now) c.loop-byte-test.true c.loop-byte.invariant.0 c.loop-byte.invariant.1 in
-    (ap (λ d. number_after (c.loop-byte.total * 8 + d) (drop (c.loop-byte.byte-index + 1) c.args.text.now)) c.from.ensures ∙ m.rest, m.digits)
+overflow_add-total c = let m = read (goal.at.overflow_add-total c).In-loop-byte in omega arith
 
 pub returns : goal.returns
 returns c =

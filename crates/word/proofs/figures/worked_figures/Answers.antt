@@ -2,7 +2,7 @@
 use Rattle.std.proofs.Common.{◌≡◌, ℕ, refl, ap, ◌∙◌}
 use lib.Count.{count_leading_zeros}
 use Rattle.word.specs.declared.sums.Sum.{Sum}
-use Rattle.word.specs.declared.words.Word.{Word}
+use Rattle.word.specs.Words.{Word}
 use Rattle.word.specs.Adding.{full_sum}
 use Rattle.word.specs.Figures.{numbers}
 use Rattle.word.specs.Parts.{field, read}

@@ -1,10 +1,9 @@
--- `Adder::add` meets its contract.
-use Rattle.std.proofs.Common.{rules}
+-- The laws hold whatever is added.
 use Rattle.word.proofs.SumLaws.{sum_laws}
 use Rattle.word.proofs.adder.Adder.add.Goals as goal
 
-pub returns-then-b-limit : goal.returns-then-b-limit
-returns-then-b-limit c = record { reply = search rules; laws = sum_laws }
+pub returns-then-b-limit-clause-laws : goal.returns-then-b-limit-clause-laws
+returns-then-b-limit-clause-laws c = sum_laws
 
-pub returns-else-a-limit : goal.returns-else-a-limit
-returns-else-a-limit c = record { reply = search rules; laws = sum_laws }
+pub returns-else-a-limit-clause-laws : goal.returns-else-a-limit-clause-laws
+returns-else-a-limit-clause-laws c = sum_laws

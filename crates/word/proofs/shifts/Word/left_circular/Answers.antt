@@ -1,0 +1,9 @@
+-- `Word::left_circular` meets its contract.
+use Rattle.word.proofs.ShiftLaws.{left_circular_moves, left_undone}
+use Rattle.word.proofs.shifts.Word.left_circular.Goals as goal
+
+pub returns-clause-bits : goal.returns-clause-bits
+returns-clause-bits c = rw c.turned_left.ensures (left_circular_moves _ _ c.args.self.fits)
+
+pub returns-clause-back : goal.returns-clause-back
+returns-clause-back c = rw c.turned_left.ensures (left_undone _ _ c.args.self.fits)
