@@ -8,6 +8,7 @@
 --   AllWords ls      each line is a word
 --   Bad line         the line is no word
 --   FirstBad n ls    line n, counted from 1, is bad, and each line before it is a word
+--   Words ns         each number of ns is that of a word
 --   ColumnOf bs ns   the lines of bs are the digits of the numbers ns, which are words
 --   GoodColumn bs    bs is the column of some numbers
 --   written ns       the numbers ns as text, each with a newline after it
@@ -17,7 +18,8 @@
 --                    or with a lack of memory, where bs is a good column
 --   Exactly ns r     the answer is these numbers, unless memory lacked
 --   ReadsBack bs r   text that was written from numbers reads as these numbers
-use Rattle.std.specs.Prelude.{◌≡◌, ℕ, ◌-◌, ◌^◌, ◌<◌, ◌≤◌, true, false, cond, not, List, [], ◌∷◌, ◌++◌, map, length, is_ok, Ok, Err, vec_items, Result, Vec, ◌==◌, slice_index_or}
+--   explanation e    the text that says why a text is no column
+use Rattle.std.specs.Prelude.{◌≡◌, ℕ, ◌-◌, ◌^◌, ◌<◌, ◌≤◌, true, false, if◌then◌else◌, not, List, [], ◌∷◌, ◌++◌, map, length, is_ok, Ok, Err, codes, decimal, vec_items, Result, Vec, ◌==◌, slice_index_or}
 use Rattle.std.specs.List.{prefix_len, AllByRecursion}
 use Rattle.std.specs.declared.alloc.Global.{Global}
 use Rattle.word.specs.Words.{Word}
@@ -37,7 +39,7 @@ put_before b (l ∷ ls) = (b ∷ l) ∷ ls
 
 abbrev pub lines : List ℕ → List (List ℕ)
 lines [] = []
-lines (b ∷ bs) = cond (b == newline) ([] ∷ lines bs) (put_before b (lines bs))
+lines (b ∷ bs) = if b == newline then [] ∷ lines bs else put_before b (lines bs)
 
 abbrev pub IsWord : List ℕ → Type 0
 IsWord line = is_ok (reading line) ≡ true
@@ -54,8 +56,11 @@ pub record FirstBad (n : ℕ) (ls : List (List ℕ)) : Type 0 where
   pub bad : Bad (slice_index_or ls (n - 1) [])
   pub before : (k : ℕ) → k < n - 1 → Bad (slice_index_or ls k []) → ⊥
 
+abbrev pub Words : List ℕ → Type 0
+Words ns = AllByRecursion (λ n. n < 2 ^ 36) ns
+
 pub record ColumnOf (bs ns : List ℕ) : Type 0 where
-  pub fit : AllByRecursion (λ n. n < 2 ^ 36) ns
+  pub fit : Words ns
   pub digits : map word_digits ns ≡ lines bs
 
 abbrev pub GoodColumn : List ℕ → Type 0
@@ -83,4 +88,8 @@ Exactly ns (Err (BadLine n)) = ⊥
 Exactly ns (Err Memory) = Unit {0}
 
 abbrev pub ReadsBack : List ℕ → Result (List ℕ) ColumnError → Type 0
-ReadsBack bs r = (ns : List ℕ) → AllByRecursion (λ n. n < 2 ^ 36) ns → bs ≡ written ns → Exactly ns r
+ReadsBack bs r = (ns : List ℕ) → Words ns → bs ≡ written ns → Exactly ns r
+
+abbrev pub explanation : ColumnError → List ℕ
+explanation (BadLine n) = codes "bad line " ++ decimal n
+explanation Memory = codes "no memory for the words"

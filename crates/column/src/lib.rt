@@ -5,8 +5,9 @@
 // `first_bad_line` finds that line alone, and takes no memory. `?` makes a lack of memory `ColumnError::Memory`.
 #![tactic(auto)]
 
+mod bad_lines;
 mod lines;
 mod reader;
 
-pub use lines::first_bad_line;
+pub use bad_lines::first_bad_line;
 pub use reader::{ColumnError, read_column};

@@ -1,43 +1,37 @@
-// The lines of a text: where each ends, and the first that is no word.
-ghost use Rattle.std.specs.Prelude.{◌≡◌, ◌+◌, ◌≤◌, length, drop, is_ok, MatchOption};
-ghost use Rattle.word.specs.Digits.{reading};
-ghost use Rattle.column.specs.Column.{line_length, lines, AllWords, FirstBad};
+// The lines of a text.
+ghost use Rattle.std.specs.Prelude.{◌≡◌, ◌+◌, take, drop};
+ghost use Rattle.std.specs.Iterator.{YieldsFirstRef, item_count};
+ghost use Rattle.column.specs.Column.{line_length, lines};
 
-use word::Word;
+/// The lines of a text that are left, in order.
+#[derive(Drop)]
+pub(crate) struct Lines<'a>(pub(crate) &'a [u8]);
 
-/// The place of the first newline from `start` on, or the text's length where there is none.
-pub(crate) fn line_end(text: &[u8], start: usize) -> usize
-    requires { start ≤ length text.now }
-    ensures value { result ≡ start + line_length (drop start text.now) }
-    ensures bound { result ≤ length text.now }
-{
-    let mut place = start;
-    while place < text.len() && text[place] != b'\n' {
-        place += 1;
-    }
-    place
-}
+impl<'a> Iterator for Lines<'a> {
+    type Item = &'a [u8];
 
-// Whether the line reads as a word.
-fn is_word(line: &[u8]) -> bool
-    ensures { result ≡ is_ok (reading line.now) }
-{
-    Word::from_digits(line).is_ok()
-}
+    ghost next_gives = { YieldsFirstRef (λ s. lines s.0.now) };
 
-/// The number, from 1, of the first line that is no word, or nothing where every line is one.
-pub fn first_bad_line(text: &[u8]) -> Option<usize>
-    ensures { MatchOption result (AllWords (lines text.now)) (λ n. FirstBad n (lines text.now)) }
-{
-    let mut before = 0;
-    let mut start = 0;
-    while start < text.len() {
-        let end = line_end(text, start);
-        if !is_word(&text[start..end]) {
-            return Some(before + 1);
+    ghost remaining = { item_count (λ s. lines s.0.now) };
+
+    #[tactic(auto, using(crate::proofs::Cuts::first_line))]
+    fn next(&mut self) -> Option<&'a [u8]> {
+        if self.0.is_empty() {
+            return None;
         }
-        before += 1;
-        start = end + 1;
+        let (line, left) = cut_at_newline(self.0);
+        self.0 = left;
+        Some(line)
     }
-    None
+}
+
+// The bytes before the first newline, and those after it.
+fn cut_at_newline(text: &[u8]) -> (&[u8], &[u8])
+    ensures line { result.0.now ≡ take (line_length text.now) text.now }
+    ensures left { result.1.now ≡ drop (line_length text.now + 1) text.now }
+{
+    match text.iter().position(|byte| *byte == b'\n') {
+        Some(end) => (&text[..end], &text[end + 1..]),
+        None => (text, &[]),
+    }
 }

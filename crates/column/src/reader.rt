@@ -1,10 +1,13 @@
 // The reading of a column of words.
-ghost use Rattle.std.specs.Prelude.{◌≡◌, IfOk};
+ghost use Rattle.std.specs.Prelude.{◌≡◌, Some, IfOk};
 ghost use Rattle.column.specs.declared.reader.ColumnError.TheVariants.{Memory};
-ghost use Rattle.column.specs.Column.{lines, AllWords, ColumnOf, numbers, Reads, ReadsBack, numbers_of};
+ghost use Rattle.column.specs.Column.{lines, AllWords, ColumnOf, numbers, Reads, ReadsBack, numbers_of, explanation};
 
-use crate::lines::{first_bad_line, line_end};
+use crate::bad_lines::first_bad_line;
+use crate::lines::Lines;
 use std::alloc::{AllocError, Global};
+use std::error::Error;
+use std::fmt;
 use word::Word;
 
 /// Why a text was not read as a column of words.
@@ -16,12 +19,25 @@ pub enum ColumnError {
     Memory,
 }
 
+impl fmt::Display for ColumnError {
+    ghost output = { λ e. Some (explanation e) };
+
+    fn fmt<W: fmt::Write>(&self, f: &mut fmt::Formatter<W>) -> fmt::Result {
+        match *self {
+            ColumnError::BadLine(line) => write!(f, "bad line {line}"),
+            ColumnError::Memory => write!(f, "no memory for the words"),
+        }
+    }
+}
+
+impl Error for ColumnError {}
+
 /// A lack of memory is answered as `Memory`.
 impl From<AllocError> for ColumnError {
     ghost from_gives = { λ _ r. r ≡ Memory };
 
-    fn from(_error: AllocError) -> ColumnError {
-        ColumnError::Memory
+    fn from(_: AllocError) -> Self {
+        Self::Memory
     }
 }
 
@@ -31,19 +47,14 @@ fn words_of(heap: Global, text: &[u8]) -> Result<Vec<Word>, AllocError>
     ensures { IfOk result (λ words. ColumnOf text.now (numbers words.items)) }
 {
     let mut words = Vec::new(heap);
-    let mut start = 0;
-    while start < text.len() {
-        let end = line_end(text, start);
-        match Word::from_digits(&text[start..end]) {
-            Ok(word) => words.push(word)?,
-            Err(_) => unreachable(),
-        }
-        start = end + 1;
+    for line in Lines(text) {
+        words.push(Word::from_digits(line).unwrap())?;
     }
     Ok(words)
 }
 
 /// The words of a column, in order; or its first bad line; or, where every line is a word, that there was no memory.
+#[tactic(auto, using(crate::proofs::Columns::good_column))]
 pub fn read_column(heap: Global, text: &[u8]) -> Result<Vec<Word>, ColumnError>
     ensures reply { Reads text.now (numbers_of result) }
     ensures back { ReadsBack text.now (numbers_of result) }
