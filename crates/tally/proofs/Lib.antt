@@ -1,3 +1,2 @@
 -- The files of lemmas.
-pub mod Rows
 pub mod Totals

@@ -1,6 +1,7 @@
 // Adds up a column of words from the standard input as the machine would, and prints each sum.
 #![tactic(auto)]
 
+mod lines;
 mod reports;
 
 use reports::report;
@@ -11,6 +12,6 @@ fn main(rt: HostRuntime) -> io::Result<()> {
     let heap = rt.alloc();
     let mut text = Vec::new(heap);
     rt.stdin().read_to_end(&mut text)?;
-    let out = report(heap, text.as_slice())?;
+    let out = report(heap, &text)?;
     print!(rt; "{out}")
 }
