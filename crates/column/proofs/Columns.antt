@@ -1,5 +1,6 @@
 -- The lines of a column: the first bad one, the words that they are, and a column that was written. Assumes nothing.
-use Rattle.std.proofs.Common.{◌≡◌, ℕ, ◌+◌, ◌-◌, ◌<◌, List, [], ◌∷◌, map, length, get_or, is_ok, Ok, Err, Result, sym, refl, ap, ◌∙◌, subst, arith}
+use Rattle.std.proofs.Common.{◌≡◌, ℕ, ◌+◌, ◌-◌, ◌<◌, ◌≤◌, List, [], ◌∷◌, ◌++◌, map, length, get_or, drop, is_ok, Ok, Err, Result, sym, refl, ap, ◌∙◌, subst, append_assoc, append-nil, arith}
+use Rattle.std.proofs.lemmas.List.{map_push, drop_all}
 use Rattle.std.proofs.lemmas.List.Sums.{prefix_len-le-length}
 use Rattle.std.proofs.lemmas.Bool.Decides.{nat_tests}
 use Rattle.std.proofs.lemmas.List.Elements.{All-from_recursion, recursion_from_All, All-from_all_within}
@@ -9,7 +10,7 @@ use Rattle.word.specs.Digits.{word_digits, is_octal, front, number}
 use Rattle.word.proofs.Octal.{front_word, length_word, number_word, number_small, reading_back, written_back}
 use Rattle.column.specs.declared.reader.ColumnError.{ColumnError}
 use Rattle.column.specs.declared.reader.ColumnError.TheVariants.{BadLine, Memory}
-use Rattle.column.specs.Column.{lines, Words, IsWord, AllWords, Bad, FirstBad, GoodColumn, written, numbers, Reads, ReadsBack}
+use Rattle.column.specs.Column.{lines, Words, IsWord, AllWords, Bad, FirstBad, ColumnOf, GoodColumn, written, numbers, Reads, ReadsBack}
 use Rattle.column.proofs.Cuts.{digits_line}
 
 pub numbers_fit : (ws : List Word) → Words (numbers ws)
@@ -39,6 +40,16 @@ first_bad ls k within bad words =
       bad = subst (λ n. Bad (get_or ls n [])) here (bad []);
       before = λ j earlier bad_before. cc (words j [] (omega arith) (omega arith), bad_before);
     }
+
+-- one more line is read
+pub word_read : (ws vs : List Word) (w : Word) (line : List ℕ) (left rest all : List (List ℕ)) → left ≡ line ∷ rest → vs ≡ ws ++ w ∷ [] → word_digits w.bits ≡ line → map word_digits (numbers ws) ++ left ≡ all → map word_digits (numbers vs) ++ rest ≡ all
+word_read ws vs w line left rest all s v d inv = rw (v, map_push (λ (u : Word). u.bits) ws w, map_push word_digits (numbers ws) w.bits, append_assoc, d, ← s) inv
+
+-- all lines are read
+pub all_read : (ws : List Word) (text : List ℕ) (start : ℕ) → length text ≤ start → map word_digits (numbers ws) ++ lines (drop start text) ≡ lines text → ColumnOf text (numbers ws)
+all_read ws text start h inv =
+    let read = map word_digits (numbers ws) in
+    record { fit = numbers_fit ws; digits = sym (append-nil read) ∙ ap (λ t. read ++ lines t) (sym (drop_all start text h)) ∙ inv }
 
 written_lines : (ns : List ℕ) → lines (written ns) ≡ map word_digits ns
 written_lines [] = refl

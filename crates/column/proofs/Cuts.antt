@@ -1,5 +1,6 @@
 -- Text cut into lines. Assumes nothing.
-use Rattle.std.proofs.Common.{one-add, add-one, ◌≡◌, ℕ, ◌+◌, ◌<◌, ◌≤◌, Bool, true, false, cond, not, eqb, List, [], ◌∷◌, ◌++◌, length, take, drop, refl, ap, ◌∙◌, arith}
+use Rattle.std.proofs.Common.{one-add, add-one, ◌≡◌, ℕ, ◌+◌, ◌-◌, ◌<◌, ◌≤◌, Bool, true, false, cond, not, eqb, List, [], ◌∷◌, ◌++◌, length, take, drop, refl, ap, ◌∙◌, arith}
+use Rattle.std.proofs.lemmas.List.{length-drop, drop-drop}
 use Rattle.std.proofs.lemmas.Bool.Decides.{nat_tests}
 use Rattle.word.specs.Digits.{front}
 use Rattle.word.proofs.Octal.{first_octal}
@@ -15,6 +16,15 @@ cut false b (x ∷ xs) more = ap (put_before b) (more (omega arith)) ∙ simp (o
 pub first_line : (bs : List ℕ) → 0 < length bs → lines bs ≡ take (line_length bs) bs ∷ lines (drop (line_length bs + 1) bs)
 first_line [] h = absurd (omega arith)
 first_line (b ∷ bs) h = cut (eqb b newline) b bs (first_line bs)
+
+-- the same from a place in a text
+pub line_at : (text : List ℕ) (start end : ℕ) → start < length text → end ≡ start + line_length (drop start text) → lines (drop start text) ≡ take (end - start) (drop start text) ∷ lines (drop (end + 1) text)
+line_at text start end h e =
+    let n = line_length (drop start text) in
+    let some : 0 < length (drop start text) = simp length-drop (omega arith) in
+    let a : n ≡ end - start = omega arith in
+    let b : start + (n + 1) ≡ end + 1 = omega arith in
+    first_line (drop start text) some ∙ (λ i. take (a i) (drop start text) ∷ lines (drop-drop (n + 1) start text i)) ∙ ap (λ k. take (end - start) (drop start text) ∷ lines (drop k text)) b
 
 -- a byte makes one line more at most
 one_more : (t : Bool) (b : ℕ) (ls : List (List ℕ)) → length (cond t ([] ∷ ls) (put_before b ls)) ≤ 1 + length ls

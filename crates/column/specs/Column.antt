@@ -18,7 +18,7 @@
 --                    or with a lack of memory, where bs is a good column
 --   Exactly ns r     the answer is these numbers, unless memory lacked
 --   ReadsBack bs r   text that was written from numbers reads as these numbers
---   explanation e    the text that says why a text is no column
+--   explanation e    the text that says why a text was not read as a column
 use Rattle.std.specs.Prelude.{◌≡◌, ℕ, ◌-◌, ◌^◌, ◌<◌, ◌≤◌, true, false, if◌then◌else◌, not, List, [], ◌∷◌, ◌++◌, map, length, is_ok, Ok, Err, codes, decimal, vec_items, Result, Vec, ◌==◌, slice_index_or}
 use Rattle.std.specs.List.{prefix_len, AllByRecursion}
 use Rattle.std.specs.declared.alloc.Global.{Global}

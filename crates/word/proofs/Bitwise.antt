@@ -1,7 +1,7 @@
 -- Bits of parts of a number: of its low end, of its high end, of two ends put together. Assumes nothing.
-use Rattle.std.proofs.Common.{add-zero, w64, ◌≡◌, ℕ, suc, ◌+◌, ◌-◌, ◌*◌, ◌/◌, ◌%◌, ◌^◌, ◌<◌, ◌≤◌, sym, ap, ◌∙◌, subst, pow-suc, arith, shr-shr}
+use Rattle.std.proofs.Common.{add-zero, w64, ◌≡◌, ℕ, suc, ◌+◌, ◌-◌, ◌*◌, ◌/◌, ◌%◌, ◌^◌, ◌<◌, ◌≤◌, sym, ap, ◌∙◌, subst, mod-lt, pow-suc, pow_pos, arith, shr-shr}
 use lib.Pow.{high, low, field, mod-mod-pow}
-use Rattle.std.proofs.lemmas.Nat.Bits.{bit_at_cat_low, bit_at-zero, bit_at_not}
+use Rattle.std.proofs.lemmas.Nat.Bits.{bit_at_cat_low, bit_at-zero, bit_at_not, same_from_bits_below}
 use Rattle.word.specs.Bits.{bit, bits_at}
 
 -- bits of the k lowest bits are bits of the number
@@ -34,3 +34,8 @@ pub complement_bit : (i a : ℕ) → i < 36 → a < 2 ^ 36 → bit i (2 ^ 36 - 1
 complement_bit i a h fits =
     let e : 2 ^ 36 - 1 - a ≡ (2 ^ 64 - 1 - a) % 2 ^ 36 = omega arith in
     ap (bit i) e ∙ low_end i 1 36 (2 ^ 64 - 1 - a) (omega arith) ∙ bit_at_not w64 a i (omega arith) (omega arith)
+
+-- numbers with the same k lowest bits have the same remainder
+pub same_low : (k a b : ℕ) → ((i : ℕ) → i < k → bit i a ≡ bit i b) → a % 2 ^ k ≡ b % 2 ^ k
+same_low k a b h =
+    same_from_bits_below k (a % 2 ^ k) (b % 2 ^ k) (mod-lt a (pow_pos k)) (mod-lt b (pow_pos k)) (λ i lt. low_end i 1 k a (omega arith) ∙ h i lt ∙ sym (low_end i 1 k b (omega arith)))

@@ -26,6 +26,9 @@ module _ (s n w v : ℕ) where
   unfolding joined
   apart x = ap (λ y. y + w % 2 ^ s) (add-mul (w / 2 ^ s / 2 ^ n * 2 ^ n) x (2 ^ s))
 
+  pub taken_out : bits_at s n w * 2 ^ s ≤ w
+  taken_out = omega (arith, whole, apart (bits_at s n w))
+
   put_in : w - bits_at s n w * 2 ^ s + v % 2 ^ n * 2 ^ s ≡ joined (v % 2 ^ n)
   put_in = omega (arith, whole, apart (bits_at s n w), apart (v % 2 ^ n))
 

@@ -1,5 +1,5 @@
 -- The order of words.
---   order v w   how the word v stands to the word w: by the sign, whose lack stands above it, then by the number
+--   order v w   how the word v stands to the word w: one without sign stands above one with it, else the larger number
 use Rattle.std.specs.declared.cmp.Ordering.{Ordering}
 use Rattle.std.specs.Ordering.{bool_cmp, nat_cmp, on, flip_args, then_cmp}
 use Rattle.word.specs.Words.{Word}

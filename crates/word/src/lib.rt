@@ -3,7 +3,7 @@
 // Read `numbers`, `words` and `halves` first (the types `Word` and `Half`), then `sums` and `adder` (`Sum`, `Adder`),
 // `order`, `logic`, `fields` and `parts` (`Part`), `shifts` (`Count`, `Counted`), `digits` (`DigitsError`) and `figures`
 // (`worked_figures`). `up_to` has the type behind parts and counts, `out_of_range` the refusal of a number.
-// The library allocates nothing, keeps no state, and asks nothing of its caller beyond the types.
+// The library allocates nothing, keeps no state, and no function written here asks anything of its caller beyond the types.
 #![tactic(auto)]
 
 mod adder;

@@ -18,7 +18,7 @@ impl<const WIDTH: u32> Number<WIDTH> {
         WIDTH >= u64::BITS || number < 1 << WIDTH
     }
 
-    /// The number of the width with these bits, or nothing where there are more of them.
+    /// This number, or nothing where it has more bits than the width.
     pub fn new(number: u64) -> Option<Number<WIDTH>>
         ensures { MatchOption result (2 ^ WIDTH ≤ number) (λ n. n.bits ≡ number) }
     {

@@ -5,7 +5,7 @@ ghost use Rattle.std.specs.Fmt.{styled_text};
 use std::error::Error;
 use std::fmt;
 
-/// A number that is too large for the type that it was to become.
+/// The refusal of a number that is too large for the type that it was to become.
 #[derive(Clone, Copy, PartialEq, Eq, Debug)]
 pub struct OutOfRange;
 

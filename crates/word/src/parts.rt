@@ -7,7 +7,7 @@ use crate::up_to::UpTo;
 use crate::words::Word;
 
 /// A selector of a part of a word: 0 the whole word, 1 to 4 halves, 5 to 7 thirds, 0o10 to 0o15 sixths.
-// A number and no enum, since an instruction has it and the rule of the fields goes by it.
+// A number and no enum: the rule of the fields and their table go by it.
 pub type Part = UpTo<0o15>;
 
 impl Word {

@@ -4,6 +4,7 @@ ghost use Rattle.std.specs.Prelude.{◌≡◌, ◌<◌, ◌≤◌, MatchOption, 
 use crate::out_of_range::OutOfRange;
 
 /// A number from 0 to `MOST`.
+// Not one type with `Number`: the bound of a width would be a computed argument, and the width be lost to sums.
 #[derive(Clone, Copy, PartialEq, Eq, Debug)]
 pub struct UpTo<const MOST: u32> {
     pub(crate) number: u32,
