@@ -1,10 +1,13 @@
 // Numbers of a fixed width, and the unsigned number that their bits write.
 ghost use Rattle.std.specs.Prelude.{◌≡◌, ◌%◌, ◌^◌, ◌<◌, ◌≤◌, ◌↔◌, IsTrue, MatchOption, MatchResult};
 
+use crate::halves::HALF_BITS;
 use crate::out_of_range::OutOfRange;
+use crate::words::WORD_BITS;
+use std::fmt;
 
 /// A number of so many bits; a word has 36, a half 18.
-#[derive(Clone, Copy, PartialEq, Eq, Debug)]
+#[derive(Clone, Copy, PartialEq, Eq)]
 pub struct Number<const WIDTH: u32> {
     pub(crate) bits: u64,
     ghost fits: { bits < 2 ^ WIDTH },
@@ -66,5 +69,17 @@ impl<const WIDTH: u32> From<Number<WIDTH>> for u64 {
 
     fn from(number: Number<WIDTH>) -> u64 {
         number.bits
+    }
+}
+
+// By hand, so that the text tells a word from a half.
+impl<const WIDTH: u32> fmt::Debug for Number<WIDTH> {
+    fn fmt<W: fmt::Write>(&self, f: &mut fmt::Formatter<W>) -> fmt::Result {
+        let name = match WIDTH {
+            WORD_BITS => "Word",
+            HALF_BITS => "Half",
+            _ => "Number",
+        };
+        f.debug_struct(name).field("bits", &self.bits).finish()
     }
 }

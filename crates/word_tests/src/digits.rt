@@ -1,6 +1,6 @@
 // Octal digits: twelve of them are a word, and every other text is refused with its place.
 use std::test::Fail;
-use word::{DigitsError, OutOfRange, Word};
+use word::{DigitsError, Half, Number, OutOfRange, Word};
 
 #[test]
 fn twelve_digits(rt: HostRuntime) -> Result<(), Fail> {
@@ -53,5 +53,17 @@ fn printed(rt: HostRuntime) -> Result<(), Fail> {
     let error = OutOfRange;
     assert!(rt; format!(in heap; "{error}")?.as_str() == "number out of range");
     assert!(rt; format!(in heap; "{word:>14}")?.as_str() == "  000000001234");
+    Ok(())
+}
+
+#[test]
+fn debug_names(rt: HostRuntime) -> Result<(), Fail> {
+    let heap = rt.alloc();
+    let word = Word::of_lowest(0o1234);
+    let half = Half::of_lowest(0o1234);
+    let other = Number::<6>::of_lowest(0o1234);
+    assert!(rt; format!(in heap; "{word:?}")?.as_str() == "Word { bits: 668 }");
+    assert!(rt; format!(in heap; "{half:?}")?.as_str() == "Half { bits: 668 }");
+    assert!(rt; format!(in heap; "{other:?}")?.as_str() == "Number { bits: 28 }");
     Ok(())
 }
