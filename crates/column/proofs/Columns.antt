@@ -1,5 +1,5 @@
 -- The lines of a column: the first bad one, the words that they are, and a column that was written. Assumes nothing.
-use Rattle.std.proofs.Common.{◌≡◌, ℕ, ◌+◌, ◌-◌, ◌<◌, ◌≤◌, List, [], ◌∷◌, ◌++◌, map, length, get_or, drop, is_ok, Ok, Err, Result, sym, refl, ap, ◌∙◌, subst, append_assoc, append-nil, arith}
+use Rattle.std.proofs.Common.{◌≡◌, ℕ, zero, suc, ◌+◌, ◌-◌, ◌<◌, ◌≤◌, List, [], ◌∷◌, ◌++◌, map, length, get_or, drop, is_ok, Ok, Err, Result, sym, refl, ap, ◌∙◌, subst, append_assoc, append-nil, arith}
 use Rattle.std.proofs.lemmas.List.{map_push, drop_all}
 use Rattle.std.proofs.lemmas.List.Sums.{prefix_len-le-length}
 use Rattle.std.proofs.lemmas.Bool.Decides.{nat_tests}
@@ -39,6 +39,21 @@ first_bad ls k within bad words =
       within = omega arith;
       bad = subst (λ n. Bad (get_or ls n [])) here (bad []);
       before = λ j earlier bad_before. cc (words j [] (omega arith) (omega arith), bad_before);
+    }
+
+passed : (line : List ℕ) (ls : List (List ℕ)) (n : ℕ) → IsWord line → FirstBad n ls → (k : ℕ) → k < n → Bad (get_or (line ∷ ls) k []) → ⊥
+passed line ls n w f zero h q = cc (w, q)
+passed line ls n w f (suc k) h q = f.before k (omega arith) q
+
+-- with a word put before the lines it is the first still, one line further on
+pub bad_later : (line : List ℕ) (ls : List (List ℕ)) (n : ℕ) → IsWord line → FirstBad n ls → FirstBad (1 + n) (line ∷ ls)
+bad_later line ls n w f =
+    let e : suc (n - 1) ≡ 1 + n - 1 = omega (arith, f.from_one) in
+    record {
+      from_one = omega arith;
+      within = omega (arith, f.within);
+      bad = subst (λ k. Bad (get_or (line ∷ ls) k [])) e f.bad;
+      before = λ k h. passed line ls n w f k (omega arith);
     }
 
 -- one more line is read

@@ -1,7 +1,7 @@
 -- Bits of parts of a number: of its low end, of its high end, of two ends put together. Assumes nothing.
-use Rattle.std.proofs.Common.{add-zero, w64, ◌≡◌, ℕ, suc, ◌+◌, ◌-◌, ◌*◌, ◌/◌, ◌%◌, ◌^◌, ◌<◌, ◌≤◌, sym, ap, ◌∙◌, subst, mod-lt, pow-suc, pow_pos, arith, shr-shr}
-use lib.Pow.{high, low, field, mod-mod-pow}
-use Rattle.std.proofs.lemmas.Nat.Bits.{bit_at_cat_low, bit_at-zero, bit_at_not, same_from_bits_below}
+use Rattle.std.proofs.Common.{add-zero, ◌≡◌, ℕ, suc, ◌+◌, ◌-◌, ◌*◌, ◌/◌, ◌%◌, ◌^◌, ◌<◌, ◌≤◌, sym, ap, ◌∙◌, subst, mod-lt, add-mul, pow-suc, arith, pow_pos, pow-add, shr-shr, shr_lt}
+use lib.Pow.{split, high, low, field, mod-mod-pow}
+use Rattle.std.proofs.lemmas.Nat.Bits.{bit_at_cat_low, bit_at-zero, same_from_bits_below}
 use Rattle.word.specs.Bits.{bit, bits_at}
 
 -- bits of the k lowest bits are bits of the number
@@ -29,11 +29,28 @@ behind i n x h = ap (bit i) (sym (add-zero (x * 2 ^ n))) ∙ bit_at_cat_low x n 
 pub even : (p : ℕ) → 0 < p → 2 ^ p ≡ 2 ^ (p - 1) * 2
 even p h = let e : p ≡ suc (p - 1) = omega arith in ap (λ k. 2 ^ k) e ∙ pow-suc 2 (p - 1)
 
--- each bit of the complement of a word is the other one
-pub complement_bit : (i a : ℕ) → i < 36 → a < 2 ^ 36 → bit i (2 ^ 36 - 1 - a) ≡ 1 - bit i a
-complement_bit i a h fits =
-    let e : 2 ^ 36 - 1 - a ≡ (2 ^ 64 - 1 - a) % 2 ^ 36 = omega arith in
-    ap (bit i) e ∙ low_end i 1 36 (2 ^ 64 - 1 - a) (omega arith) ∙ bit_at_not w64 a i (omega arith) (omega arith)
+-- the complement, shifted right
+pub complement_high : (p k a : ℕ) → a < 2 ^ (p + k) → (2 ^ (p + k) - 1 - a) / 2 ^ k ≡ 2 ^ p - 1 - a / 2 ^ k
+complement_high p k a h =
+    let q = a / 2 ^ k in
+    let c = 2 ^ p - 1 - q in
+    let apart = split a k in
+    let rest : a % 2 ^ k < 2 ^ k = mod-lt a (pow_pos k) in
+    let few : q < 2 ^ p = shr_lt p k h in
+    let f : 2 ^ p ≡ c + (q + 1) = omega arith in
+    let g : 2 ^ p * 2 ^ k ≡ c * 2 ^ k + (q * 2 ^ k + 1 * 2 ^ k) = ap (λ y. y * 2 ^ k) f ∙ add-mul c (q + 1) (2 ^ k) ∙ ap (λ y. c * 2 ^ k + y) (add-mul q 1 (2 ^ k)) in
+    let whole = pow-add 2 p k in
+    let d : 2 ^ (p + k) - 1 - a ≡ c * 2 ^ k + (2 ^ k - 1 - a % 2 ^ k) = omega arith in
+    ap (λ y. y / 2 ^ k) d ∙ high c k (omega arith)
+
+-- each bit of the complement is the other one
+pub complement_bit : (w i a : ℕ) → i < w → a < 2 ^ w → bit i (2 ^ w - 1 - a) ≡ 1 - bit i a
+complement_bit w i a h fits =
+    let e : (w - i) + i ≡ w = omega arith in
+    let d = subst (λ k. a < 2 ^ k → (2 ^ k - 1 - a) / 2 ^ i ≡ 2 ^ (w - i) - 1 - a / 2 ^ i) e (complement_high (w - i) i a) fits in
+    let b = shr_lt {n = a} (w - i) i (subst (λ k. a < 2 ^ k) (sym e) fits) in
+    let v = even (w - i) (omega arith) in
+    ap (λ y. y % 2) d ∙ omega arith
 
 -- numbers with the same k lowest bits have the same remainder
 pub same_low : (k a b : ℕ) → ((i : ℕ) → i < k → bit i a ≡ bit i b) → a % 2 ^ k ≡ b % 2 ^ k

@@ -7,15 +7,16 @@ use lib.Pow.{split, high, low, high_ones}
 use Rattle.std.proofs.lemmas.Nat.{and_mask}
 use Rattle.std.proofs.lemmas.Nat.Bits.{bit_at_above, bit_at_ones}
 use Rattle.std.proofs.lemmas.Bool.{cases_lt, le-leb, lt-leb}
+use Rattle.std.proofs.lemmas.Bool.Decides.{nat_tests}
 use Rattle.word.specs.declared.fields.Field.{Field}
 use Rattle.word.specs.Bits.{bit, bits_at}
-use Rattle.word.specs.Parts.{Inside, StoredBits, ReadBits, takes_sign, filled, read, stored}
+use Rattle.word.specs.Parts.{Inside, StoredBits, ReadBits, takes_sign, filled, read, stored, field}
 use Rattle.word.specs.Sums.{negative}
 use Rattle.word.proofs.Bitwise.{even, high_end, low_end, of_low, of_high}
 
 -- w as what stands above the field, the field and what stands below it; the same with a value in the field
 module _ (s n w v : ℕ) where
-  joined : ℕ → ℕ
+  pub joined : ℕ → ℕ
   joined x = (w / 2 ^ s / 2 ^ n * 2 ^ n + x) * 2 ^ s + w % 2 ^ s
 
   whole : joined (bits_at s n w) ≡ w
@@ -29,10 +30,10 @@ module _ (s n w v : ℕ) where
   pub taken_out : bits_at s n w * 2 ^ s ≤ w
   taken_out = omega (arith, whole, apart (bits_at s n w))
 
-  put_in : w - bits_at s n w * 2 ^ s + v % 2 ^ n * 2 ^ s ≡ joined (v % 2 ^ n)
+  pub put_in : w - bits_at s n w * 2 ^ s + v % 2 ^ n * 2 ^ s ≡ joined (v % 2 ^ n)
   put_in = omega (arith, whole, apart (bits_at s n w), apart (v % 2 ^ n))
 
-  fits : s + n ≤ 36 → w < 2 ^ 36 → joined (v % 2 ^ n) < 2 ^ 36
+  pub fits : s + n ≤ 36 → w < 2 ^ 36 → joined (v % 2 ^ n) < 2 ^ 36
   unfolding joined
   fits h word =
       let r = 36 - s - n in
@@ -55,16 +56,16 @@ module _ (s n w v : ℕ) where
       (λ over. high_of x h over ∙ sym (high_of (bits_at s n w) (mod-lt (w / 2 ^ s) (pow_pos n)) over))
       o
 
-  kept : (i k : ℕ) → (i + k ≤ s) ⊎ (s + n ≤ i) → bits_at i k (joined (v % 2 ^ n)) ≡ bits_at i k w
+  pub kept : (i k : ℕ) → (i + k ≤ s) ⊎ (s + n ≤ i) → bits_at i k (joined (v % 2 ^ n)) ≡ bits_at i k w
   kept i k o = outside (v % 2 ^ n) i k (mod-lt v (pow_pos n)) o ∙ ap (bits_at i k) whole
 
-  moved : (i : ℕ) → i < n → bit (s + i) (joined (v % 2 ^ n)) ≡ bit i v
+  pub moved : (i : ℕ) → i < n → bit (s + i) (joined (v % 2 ^ n)) ≡ bit i v
   unfolding joined
   moved i h =
       of_high i 1 s (w / 2 ^ s / 2 ^ n * 2 ^ n + v % 2 ^ n) (w % 2 ^ s) (mod-lt w (pow_pos s))
       ∙ of_low i 1 n (w / 2 ^ s / 2 ^ n) (v % 2 ^ n) (mod-lt v (pow_pos n)) (omega arith) ∙ low_end i 1 n v (omega arith)
 
-  found : bits_at s n (joined (v % 2 ^ n)) ≡ v % 2 ^ n
+  pub found : bits_at s n (joined (v % 2 ^ n)) ≡ v % 2 ^ n
   unfolding joined
   found =
       ap (λ y. y % 2 ^ n) (high (w / 2 ^ s / 2 ^ n * 2 ^ n + v % 2 ^ n) s (mod-lt w (pow_pos s)))
@@ -84,6 +85,10 @@ store_leaves f w v =
 
 pub stored_fits : (f : Field) (w v : ℕ) → Inside f → w < 2 ^ 36 → stored f w v < 2 ^ 36
 stored_fits f w v h word = subst (λ r. r < 2 ^ 36) (sym (put_in f.start f.width w v)) (fits f.start f.width w v h.within word)
+
+-- every field that a selector names lies in a word
+pub known_inside : (j : ℕ) → j < 14 → Inside (field j)
+known_inside j h = record { some = grind (arith, nat_tests); within = grind (arith, nat_tests) }
 
 -- a number of the field's width as a whole word: ones above it or nothing
 module _ (f : Field) (v : ℕ) (inside : Inside f) (few : v < 2 ^ f.width) where
@@ -136,7 +141,7 @@ read_gives f w h =
     }
 
 -- a number of the field's width, moved to the field, loses nothing among 64 bits
-moved_whole : (f : Field) (x : ℕ) → Inside f → x % 2 ^ f.width * 2 ^ f.start % 2 ^ 64 ≡ x % 2 ^ f.width * 2 ^ f.start
+pub moved_whole : (f : Field) (x : ℕ) → Inside f → x % 2 ^ f.width * 2 ^ f.start % 2 ^ 64 ≡ x % 2 ^ f.width * 2 ^ f.start
 moved_whole f x h = let within = h.within in shl_exact {a = x % 2 ^ f.width} f.width f.start 64 (mod-lt x (pow_pos f.width)) (omega arith)
 
 -- as the code computes it

@@ -4,10 +4,10 @@ use native.Mathlib.Nat.{div-eq_of_lt, mul-mod_left, div-eq_of_lt-le}
 use lib.Arith.{digits_lt, mod-mul}
 use lib.Bits.{bit_and}
 use lib.Count.{count_leading_zeros, leading_le, leading_length, leading_unique}
-use lib.Pow.{shl-shr, mod-mod-pow, high_ones}
+use lib.Pow.{shl-shr, mod-mod-pow, high_ones, ones_lt, shr_le}
 use Rattle.std.proofs.lemmas.Nat.{and_mask}
 use Rattle.std.proofs.lemmas.Nat.Bits.{bit_at_above, bit_at_ones, ones_shr, same_from_bits_below}
-use Rattle.std.proofs.lemmas.Bool.{cases_lt}
+use Rattle.std.proofs.lemmas.Bool.{cases_lt, cond_both}
 use Rattle.std.proofs.lemmas.Bool.Decides.{nat_tests}
 use Rattle.word.specs.Bits.{bit}
 use Rattle.word.specs.Shifts.{turned, left_circular, right_circular, left_logical, right_logical, right_algebraic, LeftCircularBits, RightCircularBits, LeftLogicalBits, RightLogicalBits, RightAlgebraicBits, turn_count, LeastTurn, Unlike}
@@ -41,7 +41,7 @@ module _ (p w : ℕ) (places : p ≤ 36) (word : w < 2 ^ 36) where
       ∙ subst (λ k. w * 2 ^ p % 2 ^ k ≡ w % 2 ^ (36 - p) * 2 ^ p) ends (moved_up p (36 - p) w)
 
   -- bit i goes to i + p, round the end
-  turned_bits : (i : ℕ) → i < 36 → bit ((i + p) % 36) (turned p w) ≡ bit i w
+  pub turned_bits : (i : ℕ) → i < 36 → bit ((i + p) % 36) (turned p w) ≡ bit i w
   turned_bits i h =
       ⊎_elim
       (λ (lt : i + p < 36).
@@ -94,7 +94,7 @@ gone n w h =
     ap (λ k. w / 2 ^ k) e ∙ div-eq_of_lt h ∙ sym (div-eq_of_lt (omega (arith, pow_mono le))))
     (cases_lt n 36)
 
-gone_left : (n w : ℕ) → w * 2 ^ min n 36 % 2 ^ 36 ≡ w * 2 ^ n % 2 ^ 36
+pub gone_left : (n w : ℕ) → w * 2 ^ min n 36 % 2 ^ 36 ≡ w * 2 ^ n % 2 ^ 36
 gone_left n w =
     ⊎_elim
     (λ (lt : n < 36). let e : min n 36 ≡ n = omega arith in ap (λ k. w * 2 ^ k % 2 ^ 36) e)
@@ -143,6 +143,15 @@ module _ (n w : ℕ) (word : w < 2 ^ 36) where
       let f : 36 - n ≡ 36 - min n 36 = omega arith in
       let t = subst (λ k. 2 ^ k - 2 ^ (36 - min n 36) ≡ (2 ^ min n 36 - 1) * 2 ^ (36 - min n 36)) e (high_ones (min n 36) (36 - min n 36)) in
       (λ i. cond (negative 36 w) ((ap (λ k. 2 ^ 36 - 2 ^ k) f ∙ t) i) 0 + sym (gone n w word) i)
+
+  pub right_algebraic_fits : right_algebraic n w < 2 ^ 36
+  right_algebraic_fits =
+      let p = min n 36 in
+      let e : p + (36 - p) ≡ 36 = omega arith in
+      let top : (2 ^ p - 1) * 2 ^ (36 - p) + w / 2 ^ p < 2 ^ p * 2 ^ (36 - p) = digits_lt (ones_lt p) lowered in
+      let whole : 2 ^ p * 2 ^ (36 - p) ≡ 2 ^ 36 = sym (pow-add 2 p (36 - p)) ∙ ap (λ k. 2 ^ k) e in
+      let small = shr_le w p in
+      subst (λ r. r < 2 ^ 36) (sym ones_on_top) (cond_both (negative 36 w) ((2 ^ p - 1) * 2 ^ (36 - p)) 0 (λ x. x + w / 2 ^ p < 2 ^ 36) (λ t. omega arith) (λ t. omega arith))
 
   -- as the code computes it
   pub by_signs : (signs : ℕ) → signs ≡ cond (negative 36 w) (2 ^ 36 - 1) 0 → signs - signs / 2 ^ min n 36 + w / 2 ^ min n 36 ≡ right_algebraic n w
@@ -202,7 +211,7 @@ module _ (w : ℕ) (word : w < 2 ^ 36) where
   like j h z =
       ⊎_elim
       (λ s. ap (bit j) s.0 ∙ z ∙ sym s.1)
-      (λ s. ap (bit j) s.0 ∙ complement_bit j (magnitude 36 w) h (omega (arith, small)) ∙ ap (λ x. 1 - x) z ∙ sym s.1)
+      (λ s. ap (bit j) s.0 ∙ complement_bit 36 j (magnitude 36 w) h (omega (arith, small)) ∙ ap (λ x. 1 - x) z ∙ sym s.1)
       (by_magnitude w word)
 
   unlike : (j : ℕ) → j < 36 → bit j (magnitude 36 w) ≡ 1 → bit 35 w ≡ bit j w → ⊥
@@ -210,7 +219,7 @@ module _ (w : ℕ) (word : w < 2 ^ 36) where
       ⊎_elim
       (λ s. let e : bit j w ≡ 1 = ap (bit j) s.0 ∙ o in omega (arith, e, s.1, same))
       (λ s.
-      let e : bit j w ≡ 0 = ap (bit j) s.0 ∙ complement_bit j (magnitude 36 w) h (omega (arith, small)) ∙ ap (λ x. 1 - x) o in
+      let e : bit j w ≡ 0 = ap (bit j) s.0 ∙ complement_bit 36 j (magnitude 36 w) h (omega (arith, small)) ∙ ap (λ x. 1 - x) o in
       omega (arith, e, s.1, same))
       (by_magnitude w word)
 
