@@ -1,12 +1,13 @@
 -- The laws of the total of a column. Assumes nothing.
-use Rattle.std.proofs.Common.{◌≡◌, ℕ, ◌+◌, ◌%◌, ◌^◌, ◌<◌, ◌≤◌, List, [], ◌∷◌, ◌+ℤ◌, sum_by, fold, refl, sym, ap, ◌∙◌, mod-eq_of_lt, arith}
+use Rattle.std.proofs.Common.{◌≡◌, ℕ, ◌+◌, ◌-◌, ◌%◌, ◌^◌, ◌<◌, ◌≤◌, List, [], ◌∷◌, ◌+ℤ◌, sum_by, fold, refl, sym, ap, ◌∙◌, ⊎_elim, mod-eq_of_lt, arith}
+use native.Mathlib.Nat.{add-mod_right}
 use Rattle.std.proofs.Math.IntN.{+ℤ_idl, +ℤ_idr, +ℤ_assoc}
 use Rattle.std.proofs.Math.Nat.{mod-add-mod}
 use Rattle.std.proofs.lemmas.Bool.Decides.{nat_tests}
 use Rattle.std.proofs.lemmas.List.Elements.{All-from_recursion, recursion_from_All}
 use Rattle.std.proofs.lemmas.List.Sorted.{All-permutation, sum_by-IsPermutation}
 use Rattle.word.specs.Sums.{modulus, sum, value}
-use Rattle.word.proofs.SumLaws.{sum_laws}
+use Rattle.word.proofs.SumLaws.{plain_or_less, sum_laws}
 use Rattle.tally.specs.Tally.{plus, total}
 use Rattle.column.specs.Column.{Words}
 use Rattle.tally.specs.TotalLaws.{value_sum, Calm, TotalLaws}
@@ -14,6 +15,16 @@ use Rattle.tally.specs.TotalLaws.{value_sum, Calm, TotalLaws}
 -- a register below the modulus stays below it
 sum-lt : (m s w : ℕ) → s < m → w ≤ m → sum m s w < m
 sum-lt m s w h k = grind (arith, nat_tests)
+
+-- a register below the modulus stays below it, and what is added after it keeps its remainder
+pub step : (m s w p : ℕ) → s < m → w ≤ m → (sum m s w < m) × ((sum m s w + p) % m ≡ (s + (w + p)) % m)
+step m s w p h k = (
+  sum-lt m s w h k,
+  ⊎_elim
+      (λ x. ap (λ t. (t + p) % m) x.1 ∙ ap (λ t. t % m) {x = s + w + p} {y = s + (w + p)} (omega arith))
+      (λ x. ap (λ t. (t + p) % m) x.1 ∙ sym (add-mod_right (s + w - m + p) m) ∙ ap (λ t. t % m) {x = s + w - m + p + m} {y = s + (w + p)} (omega (arith, x.0)))
+      (plain_or_less m s w),
+)
 
 -- a word added to a remainder gives the remainder of the plain sum
 plus-mod : (n w : ℕ) → w < 2 ^ 36 → plus (n % modulus 36) w ≡ (n + w) % modulus 36

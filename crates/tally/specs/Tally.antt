@@ -7,6 +7,7 @@
 --   closing n t      the three lines at the end, of n words with the total t
 --   statement ws     the whole report on the words ws
 --   bad n            the report on an input whose first bad line is line n
+--   Refuses e out    out is the report on an input that could not be read, for the reason e
 --   GoodReport bs out    bs is a column of words, and out is the whole report on them
 --   BadReport bs out     bs has a first bad line, and out names it
 --   Reports bs out   out is the report on the input bs
@@ -14,6 +15,8 @@ use Rattle.std.specs.Prelude.{◌≡◌, ℕ, Bool, if◌then◌else◌, ◌⊎�
 use Rattle.std.specs.Fmt.{signed_decimal}
 use Rattle.word.specs.Digits.{word_digits}
 use Rattle.word.specs.Sums.{modulus, sum, carries, overflows, value}
+use Rattle.column.specs.declared.reader.ColumnError.{ColumnError}
+use Rattle.column.specs.declared.reader.ColumnError.TheVariants.{BadLine, Memory}
 use Rattle.column.specs.Column.{newline, lines, FirstBad, ColumnOf}
 
 abbrev pub plus : ℕ → ℕ → ℕ
@@ -43,6 +46,11 @@ statement ws = rows 0 ws ++ closing (length ws) (total 0 ws)
 
 abbrev pub bad : ℕ → List ℕ
 bad n = codes "bad line " ++ (decimal n ++ newline ∷ [])
+
+-- without memory there is no report
+abbrev pub Refuses : ColumnError → List ℕ → Type 0
+Refuses (BadLine n) out = out ≡ bad n
+Refuses Memory out = ⊥
 
 pub record GoodReport (bs out : List ℕ) : Type 0 where
   pub words : List ℕ

@@ -1,15 +1,26 @@
 // The lines of a report, which print themselves.
-ghost use Rattle.std.specs.Prelude.{Some};
+ghost use Rattle.std.specs.Prelude.{◌≡◌, Some, length};
 ghost use Rattle.tally.specs.Tally.{line_text, closing};
 
 use std::fmt;
-use word::{Sum, Word};
+use word::{Sum, WORD_DIGITS, Word};
 
 /// The line of a word: the word, the sum after it was added, and what that sum marks.
 #[derive(Clone, Copy)]
 pub struct Line {
     pub word: Word,
     pub after: Sum<Word>,
+}
+
+impl Line {
+    /// How many bytes the line has, with its newline.
+    pub fn size(self) -> usize
+        ensures { result ≡ length (line_text self.word.bits self.after.total.bits self.after.carry self.after.overflow) }
+    {
+        let carry = usize::from(self.after.carry) * " carry".len();
+        let overflow = usize::from(self.after.overflow) * " overflow".len();
+        2 * WORD_DIGITS + 2 + carry + overflow
+    }
 }
 
 impl fmt::Display for Line {

@@ -1,7 +1,7 @@
 // The report on a column of words: each word with the sum after it, and the total.
 ghost use Rattle.std.specs.Prelude.{◌≡◌, IfOk, string_bytes};
 ghost use Rattle.column.specs.Column.{numbers};
-ghost use Rattle.tally.specs.Tally.{statement, Reports};
+ghost use Rattle.tally.specs.Tally.{statement, Refuses, Reports};
 ghost use Rattle.tally.specs.TotalLaws.{TotalLaws};
 
 use crate::lines::{Closing, Line};
@@ -18,6 +18,8 @@ fn statement(heap: Global, words: &[Word]) -> Result<String, AllocError>
     for &word in words {
         let after = register.plus(word);
         let line = Line { word, after };
+        // Room for the whole line at once: grown by each piece of it, the text takes nearly twice as much at some lengths.
+        out.reserve(line.size())?;
         write!(out, "{line}")?;
         register = after.total;
     }
@@ -29,6 +31,16 @@ fn statement(heap: Global, words: &[Word]) -> Result<String, AllocError>
     Ok(out)
 }
 
+// The report on an input that is no column.
+fn refusal(heap: Global, error: ColumnError) -> Result<String, AllocError>
+    ensures { IfOk result (λ s. Refuses error (string_bytes s)) }
+{
+    match error {
+        ColumnError::BadLine(_) => format!(in heap; "{error}\n"),
+        ColumnError::Memory => Err(AllocError),
+    }
+}
+
 /// What the program prints for an input.
 #[tactic(auto, using(crate::proofs::Totals::total_laws))]
 pub fn report(heap: Global, text: &[u8]) -> Result<String, AllocError>
@@ -37,8 +49,7 @@ pub fn report(heap: Global, text: &[u8]) -> Result<String, AllocError>
 {
     match read_column(heap, text) {
         Ok(words) => statement(heap, &words),
-        Err(ColumnError::Memory) => Err(AllocError),
-        Err(error @ ColumnError::BadLine(_)) => format!(in heap; "{error}\n"),
+        Err(error) => refusal(heap, error),
     }
 }
 
