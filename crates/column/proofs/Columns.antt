@@ -41,6 +41,7 @@ first_bad ls k within bad words =
       before = λ j earlier bad_before. cc (words j [] (omega arith) (omega arith), bad_before);
     }
 
+-- after a word no line before the bad one is bad
 passed : (line : List ℕ) (ls : List (List ℕ)) (n : ℕ) → IsWord line → FirstBad n ls → (k : ℕ) → k < n → Bad (get_or (line ∷ ls) k []) → ⊥
 passed line ls n w f zero h q = cc (w, q)
 passed line ls n w f (suc k) h q = f.before k (omega arith) q

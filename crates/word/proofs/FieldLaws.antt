@@ -141,9 +141,12 @@ read_gives f w h =
     }
 
 -- a number of the field's width, moved to the field, loses nothing among 64 bits
-pub moved_whole : (f : Field) (x : ℕ) → Inside f → x % 2 ^ f.width * 2 ^ f.start % 2 ^ 64 ≡ x % 2 ^ f.width * 2 ^ f.start
-moved_whole f x h = let within = h.within in shl_exact {a = x % 2 ^ f.width} f.width f.start 64 (mod-lt x (pow_pos f.width)) (omega arith)
+pub moved_whole : (f : Field) (x : ℕ) → Inside f → x < 2 ^ f.width → x * 2 ^ f.start % 2 ^ 64 ≡ x * 2 ^ f.start
+moved_whole f x h lt = let within = h.within in shl_exact {a = x} f.width f.start 64 lt (omega arith)
+
+moved_remainder : (f : Field) (x : ℕ) → Inside f → x % 2 ^ f.width * 2 ^ f.start % 2 ^ 64 ≡ x % 2 ^ f.width * 2 ^ f.start
+moved_remainder f x h = moved_whole f (x % 2 ^ f.width) h (mod-lt x (pow_pos f.width))
 
 -- as the code computes it
 pub stored_by_code : (f : Field) (w v : ℕ) → Inside f → w - bits_at f.start f.width w * 2 ^ f.start % 2 ^ 64 + bit_and v (2 ^ f.width - 1) * 2 ^ f.start % 2 ^ 64 ≡ stored f w v
-stored_by_code f w v inside = rw (and_mask v f.width, moved_whole f (w / 2 ^ f.start) inside, moved_whole f v inside)
+stored_by_code f w v inside = rw (and_mask v f.width, moved_remainder f (w / 2 ^ f.start) inside, moved_remainder f v inside)
