@@ -5,6 +5,12 @@ ghost use Rattle.tally.specs.Tally.{line_text, closing};
 use std::fmt;
 use word::{Sum, WORD_DIGITS, Word};
 
+// What stands after a sum that carried.
+const CARRY: &str = " carry";
+
+// What stands after a sum that overflowed.
+const OVERFLOW: &str = " overflow";
+
 /// The line of a word: the word, the sum after it was added, and what that sum marks.
 #[derive(Clone, Copy)]
 pub struct Line {
@@ -17,8 +23,8 @@ impl Line {
     pub fn size(self) -> usize
         ensures { result ≡ length (line_text self.word.bits self.after.total.bits self.after.carry self.after.overflow) }
     {
-        let carry = usize::from(self.after.carry) * " carry".len();
-        let overflow = usize::from(self.after.overflow) * " overflow".len();
+        let carry = usize::from(self.after.carry) * CARRY.len();
+        let overflow = usize::from(self.after.overflow) * OVERFLOW.len();
         2 * WORD_DIGITS + 2 + carry + overflow
     }
 }
@@ -29,10 +35,10 @@ impl fmt::Display for Line {
     fn fmt<W: fmt::Write>(&self, f: &mut fmt::Formatter<W>) -> fmt::Result {
         write!(f, "{} {}", self.word, self.after.total)?;
         if self.after.carry {
-            f.write_str(" carry")?;
+            f.write_str(CARRY)?;
         }
         if self.after.overflow {
-            f.write_str(" overflow")?;
+            f.write_str(OVERFLOW)?;
         }
         writeln!(f)
     }
