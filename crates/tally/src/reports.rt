@@ -64,4 +64,17 @@ mod tests {
         assert!(rt; out.as_str() == "bad line 2\n");
         Ok(())
     }
+
+    // Fourteen lines of 26 bytes and a closing of 36: the room of a line, doubled four times, holds them.
+    #[test]
+    fn room_of_whole_lines(rt: HostRuntime) -> Result<(), Fail> {
+        let mut text = Vec::new(rt.alloc());
+        for _ in 0..14 {
+            text.extend_from_slice(b"000000000000\n")?;
+        }
+        let out = report(rt.alloc(), &text)?;
+        assert_eq!(rt; out.as_str().len(), 14 * 26 + 36);
+        assert!(rt; out.capacity() <= 16 * 26);
+        Ok(())
+    }
 }

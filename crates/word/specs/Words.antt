@@ -1,4 +1,4 @@
--- A word and half a word, as clauses name them.
+-- A word and half a word, as definitions name them.
 --   Word   a number of 36 bits
 --   Half   a number of 18 bits
 use Rattle.word.specs.declared.numbers.Number.{Number}
